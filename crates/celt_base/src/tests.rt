@@ -1,0 +1,1 @@
+//! Rows of the sources, the sinks and the kinds.
