@@ -1,7 +1,7 @@
 -- Counts of faults over several calls, and bytes that are added over several writes.
-use Rattle.std.proofs.Common.{◌≡◌, ℕ, ◌+◌, ◌^◌, ◌≤◌, min, List, [], ◌++◌, refl, sym, ◌∙◌, ap, arith, append_assoc, append-nil, Option, Some, None}
+use Rattle.std.proofs.Common.{ℕ, ◌≤◌, List, [], ◌++◌, refl, sym, ◌∙◌, ap, arith, append_assoc, append-nil, Option, Some, None}
 use Rattle.std.specs.Io.KnownBytes.{Appends}
-use Rattle.celt_base.specs.Outside.{Rose, GrewByFront, AppendsFront}
+use Rattle.celt_base.specs.Outside.{Rose, AppendsFront}
 
 -- a count that rose goes on having risen
 pub rose_before : (a b c : ℕ) → Rose a b → b ≤ c → Rose a c
@@ -35,7 +35,7 @@ then_front (Some x) (Some y) (Some z) bytes more p q =
       front = bytes ++ q.front;
       rest = q.rest;
       is_front = ap (λ l. bytes ++ l) q.is_front ∙ sym (append_assoc bytes q.front q.rest);
-      grew = q.grew ∙ ap (λ l. l ++ q.front) p ∙ append_assoc x bytes q.front
+      grew = q.grew ∙ ap (λ l. l ++ q.front) p ∙ append_assoc x bytes q.front;
     }
 
 -- a front of a front
@@ -47,5 +47,5 @@ longer_front (Some x) (Some y) bytes more p =
       front = p.front;
       rest = p.rest ++ more;
       is_front = ap (λ l. l ++ more) p.is_front ∙ append_assoc p.front p.rest more;
-      grew = p.grew
+      grew = p.grew;
     }

@@ -1,5 +1,5 @@
 -- The numbers of coded bands of the four bandwidths of the CELT-only mode (RFC 6716, section 4.3).
-use Rattle.std.specs.Prelude.{ℕ, Bool, ◌||◌, ◌==◌, ◌/◌, if◌then◌else◌, nat_lt}
+use Rattle.std.specs.Prelude.{ℕ, Bool, ◌||◌, ◌==◌, if◌then◌else◌, nat_lt}
 
 abbrev pub is_band_end : ℕ → Bool
 is_band_end n = n == 13 || n == 17 || n == 19 || n == 21

@@ -8,6 +8,5 @@ pub mod outside;
 pub mod question;
 pub mod standard;
 pub mod status;
-
 #[cfg(test)]
 mod tests;

@@ -75,9 +75,13 @@ pub enum FaultName {
     /// An audio packet has more than 61440 bytes (packet).
     PacketTooLong,
     /// An audio packet breaks a rule of RFC 6716, section 3.4 (packet).
-    BadPacket { rule: u8 },
+    BadPacket {
+        rule: u8,
+    },
     /// An audio packet is not of the CELT-only mode (packet).
-    NotCelt { config: u8 },
+    NotCelt {
+        config: u8,
+    },
     /// A granule position contradicts the samples (page).
     BadGranule,
     /// A byte follows the last page (page).

@@ -1,6 +1,6 @@
-use Rattle.std.proofs.Common.{◌≡◌, ◌+◌, ◌<◌, ◌∙◌, ℕ, List, ◌++◌, length, take, drop, min, sym, ap, get_or, arith, length-drop}
+use Rattle.std.proofs.Common.{◌≡◌, ◌+◌, ◌<◌, ◌∙◌, ◌++◌, length, take, drop, sym, ap, get_or, arith, length-drop}
 use Rattle.std.proofs.lemmas.Bool.Decides.{nat_tests}
-use Rattle.celt_base.specs.Memory.{unread, IsUnreadPlace}
+use Rattle.celt_base.specs.Memory.{unread}
 use Rattle.celt_base.proofs.Unread.{front_given, some_unread}
 use Rattle.celt_base.proofs.memory.MemSourceSource.read.Goals as goal
 
@@ -15,6 +15,7 @@ returns-clause-bytes c =
     let read : c.in-Some.bytes.now ≡ get_or pieces k c.in-Some.bytes.now = rw (← c.deref-2.ensures.value) c.in-Some.ensures.lookup.1 in
     let is_rest : rest ≡ drop start c.in-Some.bytes.now.items = c.split_at.ensures.back ∙ ap (drop start) c.deref-3.ensures.value in
     let same : unread (drop c.args.self.now.piece pieces) c.args.self.now.start ≡ unread (drop k pieces) start = rw (← c.deref.ensures.value) (sym c.unread_place-piece.ensures.same) in
-    let front : take count (drop start c.in-Some.bytes.now.items) ≡ take count c.copy_front-count.new.buf = ap (take count) (sym is_rest) ∙ sym c.copy_front-count.ensures.front in
-    ( same ∙ front_given pieces k start count c.in-Some.bytes.now inside read ∙ ap (λ l. l ++ unread (drop k pieces) (start + count)) front
-    , λ none room. absurd (let some : 0 < length rest = rw (is_rest, length-drop) (let u = some_unread pieces k start c.in-Some.bytes.now inside read (rw (← c.deref.ensures.value) c.unread_place-piece.ensures.inside) in omega arith) in let e = c.copy_front-count.ensures.count in let r = c.requires in let l = c.copy_front-count.auto.buf in omega arith) )
+    let front : take count (drop start c.in-Some.bytes.now.items) ≡ take count c.copy_front-count.new.buf = ap (take count) (sym is_rest) ∙ sym c.copy_front-count.ensures.front in (
+      same ∙ front_given pieces k start count c.in-Some.bytes.now inside read ∙ ap (λ l. l ++ unread (drop k pieces) (start + count)) front,
+      λ none room. absurd (let some : 0 < length rest = rw (is_rest, length-drop) (let u = some_unread pieces k start c.in-Some.bytes.now inside read (rw (← c.deref.ensures.value) c.unread_place-piece.ensures.inside) in omega arith) in let e = c.copy_front-count.ensures.count in let r = c.requires in let l = c.copy_front-count.auto.buf in omega arith),
+    )
