@@ -1,0 +1,7 @@
+pub mod Bounds
+pub mod Checksum
+pub mod Fields
+pub mod Sound
+pub mod Steps
+pub mod Verdicts
+pub mod Views

@@ -1,0 +1,7 @@
+//! Ogg pages (RFC 3533, section 6): reading them from bytes, and writing one.
+#![tactic(auto)]
+
+pub mod checksum;
+pub mod page;
+pub mod reader;
+pub mod view;
