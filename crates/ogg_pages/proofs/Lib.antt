@@ -1,3 +1,4 @@
 pub mod Judged
 pub mod Lengths
 pub mod Register
+pub mod Written

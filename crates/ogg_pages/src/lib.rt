@@ -5,3 +5,4 @@ pub mod checksum;
 pub mod page;
 pub mod reader;
 pub mod view;
+pub mod writer;
