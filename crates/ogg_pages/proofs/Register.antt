@@ -29,7 +29,7 @@ xor_double a b =
 -- bits times a number
 bit_multiple : (p q n : ℕ) → p < 2 → q < 2 → bit_xor p q * n ≡ bit_xor (p * n) (q * n)
 bit_multiple zero zero n hp hq = let z : 0 * n ≡ 0 = omega arith in rw z refl
-bit_multiple zero (suc zero) n hp hq = let z : 0 * n ≡ 0 = omega arith in rw (z, xor_zero_l) refl
+bit_multiple zero (suc zero) n hp hq = let z : 0 * n ≡ 0 = omega arith in rw z (sym (xor_zero_l (1 * n)))
 bit_multiple (suc zero) zero n hp hq = let z : 0 * n ≡ 0 = omega arith in rw z (sym (xor_zero_r (1 * n)))
 bit_multiple (suc zero) (suc zero) n hp hq = let z : 0 * n ≡ 0 = omega arith in rw z (sym (xor_self (1 * n)))
 bit_multiple (suc (suc p)) q n hp hq = absurd (omega arith)

@@ -4,5 +4,6 @@ pub mod Fields
 pub mod Sound
 pub mod Spelling
 pub mod Steps
+pub mod Stream
 pub mod Verdicts
 pub mod Views

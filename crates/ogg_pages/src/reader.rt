@@ -2,6 +2,8 @@
 //! it was made.
 ghost use Rattle.std.specs.Prelude.{◌≡◌, ◌+◌, ◌-◌, ◌≤◌, List, ℕ, [], ◌++◌, length, min, drop, take, IfOk, vec_capacity};
 
+ghost use Rattle.ogg_pages.specs.Steps.{IsStep};
+
 use crate::page::{MAX_PAGE_LEN, PageFault, Verdict, judge};
 use crate::view::PageView;
 use celt_base::status::OutOfMemory;
@@ -17,6 +19,20 @@ pub enum Step<'a> {
     Need,
     /// The bytes held break a test. The same answer comes again.
     Fault(PageFault),
+}
+
+/// What the bytes hold at the place of a page. Bytes after the page do not matter.
+pub fn page_at(bytes: &[u8]) -> Step<'_>
+    ensures { IsStep bytes.now result }
+{
+    match judge(bytes) {
+        Verdict::Whole(len) => {
+            let (page, _) = bytes.split_at(len);
+            Step::Page(PageView::new(page))
+        }
+        Verdict::Need => Step::Need,
+        Verdict::Fault(fault) => Step::Fault(fault),
+    }
 }
 
 /// A reader of pages. It stands for the bytes that it was fed and has not given as pages.
