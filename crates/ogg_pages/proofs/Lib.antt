@@ -1,4 +1,5 @@
 pub mod Judged
+pub mod Later
 pub mod Lengths
 pub mod Register
 pub mod Written
