@@ -1,13 +1,13 @@
-// A library with one function.
+//! The range coder of a CELT frame (RFC 6716, section 4.1): its questions are answered from the bytes of the frame.
 #![tactic(auto)]
 
-ghost use Rattle.std.specs.Prelude.{◌≡◌};
-ghost use Rattle.range_coder.specs.Echo.{echo_of};
+mod laws;
+mod logarithm;
+mod reader;
+mod window;
 
-// The `ensures` clause is the contract: what `echo` returns is `echo_of` of its argument, a definition
-// in `specs/Echo.antt`, which a caller's clause can cite too.
-pub fn echo(x: usize) -> usize
-    ensures { result ≡ echo_of x }
-{
-    x
-}
+pub use laws::{
+    law_answers_determined, law_bit_answer, law_bit_parts, law_interval_end, law_one_pace,
+    law_readings_determined,
+};
+pub use reader::Reader;

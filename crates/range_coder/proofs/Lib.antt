@@ -1,0 +1,6 @@
+pub mod Answering
+pub mod Bits
+pub mod Digits
+pub mod Longer
+pub mod Parts
+pub mod Showing
