@@ -1,8 +1,7 @@
 -- The pace of an interval, and the interval and the pace of a longer list.
-use Rattle.std.proofs.Common.{◌≡◌, ℕ, ◌+◌, ◌*◌, ◌^◌, Bool, true, false, nat_lt, if◌then◌else◌, List, [], ◌∷◌, ◌++◌, ℤ, refl, sym, ◌∙◌, ap, arith}
+use Rattle.std.proofs.Common.{◌≡◌, ◌+◌, ◌*◌, ◌^◌, Bool, true, false, nat_lt, if◌then◌else◌, List, [], ◌∷◌, ◌++◌, refl, ◌∙◌, ap, arith}
 use Rattle.std.specs.List.{fold}
 use Rattle.std.proofs.lemmas.List.Sums.{fold-append}
-use Rattle.celt_base.specs.declared.question.Question.{Question}
 use Rattle.celt_base.specs.Intervals.{Part, Symbol, InPart, InBits, Interval, whole, narrowed, grown, after}
 use Rattle.celt_base.specs.Questions.{Answered, steps, after_answer, interval_of}
 use Rattle.celt_base.specs.Paces.{Pace, pace_of, narrowed_pace, grown_pace, after_pace, paced}

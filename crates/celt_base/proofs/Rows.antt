@@ -1,5 +1,5 @@
 -- The parts of a row follow each other.
-use Rattle.std.proofs.Common.{◌≡◌, ℕ, zero, suc, ◌+◌, ◌-◌, ◌*◌, ◌^◌, ◌<◌, ◌≤◌, ◌⊎◌, inl, inr, min, refl, sym, subst, arith}
+use Rattle.std.proofs.Common.{◌≡◌, ℕ, zero, suc, ◌^◌, ◌<◌, ◌≤◌, inl, inr, subst, arith}
 use Rattle.std.proofs.lemmas.Bool.{cases_lt}
 use Rattle.std.proofs.lemmas.Nat.{pow_pos}
 use Rattle.std.proofs.Math.Nat.{pow-le-pow_right}
@@ -14,8 +14,8 @@ pub start_rises : (row : Row) (m n : ℕ) → m ≤ n → start row m ≤ start 
 start_rises row m zero le = let e : zero ≡ m = omega arith in subst (λ k. start row k ≤ start row zero) e (omega arith)
 start_rises row m (suc n) le =
     elim (cases_lt m (suc n)) [
-      inl below ↦ let before = start_rises row m n (omega arith) in let within = start_le row n in omega arith
-    | inr above ↦ let e : suc n ≡ m = omega arith in subst (λ k. start row k ≤ start row (suc n)) e (omega arith)
+      | inl below ↦ let before = start_rises row m n (omega arith) in let within = start_le row n in omega arith
+      | inr above ↦ let e : suc n ≡ m = omega arith in subst (λ k. start row k ≤ start row (suc n)) e (omega arith)
     ]
 
 bit_some : (p n : ℕ) → 1 ≤ p → n < 2 → start (bit_row p) n < start (bit_row p) (suc n)

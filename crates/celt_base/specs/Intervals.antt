@@ -1,6 +1,6 @@
 -- The interval of the range coder (RFC 6716, sections 4.1 and 5.1): the frame's number lies in it. Each symbol narrows
 -- it to one part. It is never wrapped and no byte is sent: where the standard shifts bits out, the interval keeps them.
-use Rattle.std.specs.Prelude.{ℕ, zero, suc, ◌+◌, ◌-◌, ◌*◌, ◌/◌, ◌^◌, List, nat_lt, if◌then◌else◌}
+use Rattle.std.specs.Prelude.{ℕ, zero, suc, ◌+◌, ◌-◌, ◌*◌, ◌/◌, ◌^◌, nat_lt, if◌then◌else◌}
 
 -- A part of a range: from `from` up to and without `to`, of `total`. The standard's fl, fh and ft.
 pub record Part : Type 0 where
@@ -35,7 +35,7 @@ unfoldable pub narrowed : Part → Interval → Interval
 narrowed part i =
     record i {
       low = i.low + (i.width - depth i.width part.total part.from);
-      width = depth i.width part.total part.from - depth i.width part.total part.to
+      width = depth i.width part.total part.from - depth i.width part.total part.to;
     }
 
 -- One step of renormalisation (RFC 6716, section 4.1.2.1): eight bits more, where the width is at most 2^23.

@@ -1,6 +1,6 @@
 -- The parts of a question's answers, and the interval of a list of questions with answers (RFC 6716, section 4.1).
 use Rattle.std.specs.Prelude.{ℕ, zero, suc, ◌+◌, ◌-◌, ◌^◌, ◌<◌, ◌≤◌, ◌≡◌, min, List, [], ◌∷◌, ℤ, pos, negsuc}
-use Rattle.std.specs.List.{fold, flat_map}
+use Rattle.std.specs.List.{fold}
 use Rattle.celt_base.specs.declared.question.Question.{Question}
 use Rattle.celt_base.specs.declared.question.Question.TheVariants.{Bit}
 use Rattle.celt_base.specs.Intervals.{Part, Symbol, InPart, Interval, after, whole}

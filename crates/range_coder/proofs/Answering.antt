@@ -1,14 +1,12 @@
 -- The answers of a frame are determined, and the answer of a bit is computed.
-use Rattle.std.proofs.Common.{◌≡◌, ℕ, zero, suc, ◌+◌, ◌-◌, ◌*◌, ◌/◌, ◌^◌, ◌<◌, ◌≤◌, Bool, true, false, nat_lt, if◌then◌else◌, List, [], ◌∷◌, map, ℤ, pos, negsuc, refl, sym, ap, ◌∙◌, subst, arith}
+use Rattle.std.proofs.Common.{◌≡◌, ℕ, zero, suc, ◌+◌, ◌-◌, ◌/◌, ◌^◌, ◌<◌, ◌≤◌, true, false, nat_lt, if◌then◌else◌, List, [], ◌∷◌, map, ℤ, pos, negsuc, refl, sym, ap, ◌∙◌, subst, arith}
 use Rattle.std.proofs.lemmas.Bool.Decides.{nat_tests}
 use Rattle.celt_base.specs.declared.question.Question.{Question}
 use Rattle.celt_base.specs.declared.question.Question.TheVariants.{Bit, Table, Uniform, Laplace, Step, Triangle, Raw}
-use Rattle.celt_base.specs.Intervals.{Interval, whole, depth, narrowed}
-use Rattle.celt_base.specs.Questions.{Answered, start, part_of, bit_row, after_answer, interval_of}
-use Rattle.celt_base.proofs.Narrowing.{depth_le}
+use Rattle.celt_base.specs.Intervals.{Interval, whole, narrowed}
+use Rattle.celt_base.specs.Questions.{Answered, part_of, bit_row, after_answer, interval_of}
 use Rattle.range_coder.specs.FrameBits.{head}
 use Rattle.range_coder.specs.Reading.{Holds, Answers, AnswersFrom, bit_of, first_bit}
-use Rattle.range_coder.specs.Windows.{IsCut}
 use Rattle.range_coder.proofs.Parts.{one_is_cut, zero_is_cut, place_determined}
 
 bit_determined : (frame : List ℕ) (i : Interval) (p : ℕ) (a b : ℤ) → Answers frame i (Bit p) a → Answers frame i (Bit p) b → a ≡ b
@@ -39,8 +37,8 @@ reading_determined frame i (a ∷ first) (b ∷ second) same one two =
     let other : Answers frame i a.question b.answer = subst (λ q. Answers frame i q b.answer) (sym question) two.0 in
     let answer : a.answer ≡ b.answer = answer_determined frame i a.question a.answer b.answer one.0 other in
     let equal : a ≡ b =
-        ap (λ q. let x : Answered = record { question = q; answer = a.answer } in x) question
-        ∙ ap (λ v. let x : Answered = record { question = b.question; answer = v } in x) answer in
+    ap (λ q. let x : Answered = record { question = q; answer = a.answer } in x) question
+    ∙ ap (λ v. let x : Answered = record { question = b.question; answer = v } in x) answer in
     let later : AnswersFrom frame (after_answer i a) second = subst (λ x. AnswersFrom frame (after_answer i x) second) (sym equal) two.1 in
     ap (λ x. x ∷ first) equal ∙ ap (λ l. b ∷ l) (reading_determined frame (after_answer i a) first second rest one.1 later)
 

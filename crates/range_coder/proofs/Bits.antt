@@ -1,5 +1,5 @@
 -- The head of a frame, a byte further.
-use Rattle.std.proofs.Common.{◌≡◌, ℕ, zero, suc, ◌+◌, ◌-◌, ◌*◌, ◌/◌, ◌%◌, ◌^◌, ◌<◌, ◌≤◌, List, slice_index, refl, ap, ◌∙◌, add-one, arith}
+use Rattle.std.proofs.Common.{◌≡◌, ℕ, suc, ◌+◌, ◌-◌, ◌*◌, ◌/◌, ◌%◌, List, slice_index, refl, add-one, arith}
 use Rattle.range_coder.specs.FrameBits.{front, head}
 
 front_more : (frame : List ℕ) (count : ℕ) → front frame (suc count) ≡ front frame count * 256 + slice_index frame count

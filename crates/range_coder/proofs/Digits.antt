@@ -1,9 +1,8 @@
 -- The digits of a logarithm: squares of numbers of 16 bits, and the length of a width.
-use Rattle.std.proofs.Common.{◌≡◌, ℕ, zero, suc, ◌+◌, ◌-◌, ◌*◌, ◌/◌, ◌^◌, ◌<◌, ◌≤◌, ◌⊎◌, inl, inr, refl, sym, ap, ◌∙◌, subst, arith}
+use Rattle.std.proofs.Common.{◌≡◌, ℕ, zero, suc, ◌+◌, ◌-◌, ◌*◌, ◌/◌, ◌^◌, ◌<◌, ◌≤◌, inl, inr, refl, ap, ◌∙◌, subst, arith}
 use Rattle.std.proofs.lemmas.Bool.{cases_lt}
-use Rattle.std.proofs.lemmas.Nat.{leading_top, mul-le, pow-add, pow_below, le-div, div_below, pow_pos}
+use Rattle.std.proofs.lemmas.Nat.{leading_top, mul-le, pow-add, le-div, div_below, pow_pos}
 use Rattle.std.proofs.Math.Nat.{pow-le-pow_right}
-use Rattle.std.specs.Int.{leading_zeros, w32}
 use Rattle.celt_base.specs.Paces.{bit_length, square_of, digit_of, leading_after}
 
 -- the square of 16 leading bits, without its lowest 15
@@ -48,10 +47,10 @@ pub record HasLength (width length : ℕ) : Type 0 where
 length_by : (width j : ℕ) → 2 ^ 23 < width → width < 2 ^ 32 → 2 ^ j ≤ width → width < 2 ^ suc j → suc j ≤ 32 → HasLength width (suc j)
 length_by width j wide fits low high most =
     let least : 23 ≤ j =
-        elim (cases_lt j 23) [
-          inl less ↦ absurd (let short : 2 ^ suc j ≤ 2 ^ 23 = pow-le-pow_right {n = 2} (omega arith) (let e : suc j ≤ 23 = omega arith in e) in omega arith)
-        | inr enough ↦ enough
-        ] in
+    elim (cases_lt j 23) [
+      | inl less ↦ absurd (let short : 2 ^ suc j ≤ 2 ^ 23 = pow-le-pow_right {n = 2} (omega arith) (let e : suc j ≤ 23 = omega arith in e) in omega arith)
+      | inr enough ↦ enough
+    ] in
     let split : 2 ^ j ≡ 2 ^ 15 * 2 ^ (suc j - 16) = ap (λ n. 2 ^ n) (let e : j ≡ 15 + (suc j - 16) = omega arith in e) ∙ pow-add 2 15 (suc j - 16) in
     let more : 2 ^ suc j ≡ 2 ^ 16 * 2 ^ (suc j - 16) = ap (λ n. 2 ^ n) (let e : suc j ≡ 16 + (suc j - 16) = omega arith in e) ∙ pow-add 2 16 (suc j - 16) in
     record {
@@ -59,8 +58,8 @@ length_by width j wide fits low high most =
       most = most;
       leading = record {
         low = le-div (2 ^ 15) width (2 ^ (suc j - 16)) (pow_pos (suc j - 16)) (omega arith);
-        high = div_below width (2 ^ (suc j - 16)) (2 ^ 16) (pow_pos (suc j - 16)) (omega arith)
-      }
+        high = div_below width (2 ^ (suc j - 16)) (2 ^ 16) (pow_pos (suc j - 16)) (omega arith);
+      };
     }
 
 pub length_is : (width : ℕ) → 2 ^ 23 < width → width < 2 ^ 32 → HasLength width (bit_length width)

@@ -1,5 +1,5 @@
 -- The parts of a bit as cuts, and that the parts of a row hold no number twice.
-use Rattle.std.proofs.Common.{◌≡◌, ℕ, zero, suc, ◌+◌, ◌-◌, ◌*◌, ◌/◌, ◌^◌, ◌<◌, ◌≤◌, ◌⊎◌, inl, inr, min, List, refl, sym, ap, ◌∙◌, arith}
+use Rattle.std.proofs.Common.{◌≡◌, ℕ, suc, ◌-◌, ◌*◌, ◌/◌, ◌^◌, ◌<◌, ◌≤◌, inl, inr, List, refl, sym, ap, ◌∙◌, arith}
 use Rattle.std.proofs.lemmas.Bool.{cases_order}
 use Rattle.std.proofs.Math.Nat.{pow-le-pow_right}
 use Rattle.celt_base.specs.Intervals.{Interval, depth, narrowed}
@@ -49,7 +49,7 @@ pub place_determined : (frame : List ℕ) (i : Interval) (row : Row) (m n : ℕ)
     → Holds frame (narrowed (part_of row m) i) → Holds frame (narrowed (part_of row n) i) → m ≡ n
 place_determined frame i row m n first second =
     elim (cases_order m n) [
-      inl same ↦ same
-    | inr (inl less) ↦ absurd (apart frame i row m n less first second)
-    | inr (inr more) ↦ absurd (apart frame i row n m more second first)
+      | inl same ↦ same
+      | inr (inl less) ↦ absurd (apart frame i row m n less first second)
+      | inr (inr more) ↦ absurd (apart frame i row n m more second first)
     ]

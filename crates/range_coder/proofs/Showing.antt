@@ -1,5 +1,5 @@
 -- What a window shows after each of its steps.
-use Rattle.std.proofs.Common.{◌≡◌, ℕ, zero, suc, ◌+◌, ◌-◌, ◌*◌, ◌/◌, ◌%◌, ◌^◌, ◌<◌, ◌≤◌, Bool, true, false, nat_lt, if◌then◌else◌, List, slice_index, refl, sym, ap, ◌∙◌, subst, arith}
+use Rattle.std.proofs.Common.{◌≡◌, ℕ, ◌+◌, ◌-◌, ◌*◌, ◌/◌, ◌%◌, ◌^◌, ◌<◌, ◌≤◌, true, false, nat_lt, if◌then◌else◌, List, slice_index, sym, ap, ◌∙◌, subst, arith}
 use Rattle.std.proofs.lemmas.Bool.Decides.{nat_tests}
 use Rattle.celt_base.specs.Intervals.{Part, Interval, whole, depth, narrowed, grown}
 use Rattle.celt_base.specs.Paces.{Pace, narrowed_pace, grown_pace}
@@ -22,7 +22,7 @@ shows_whole frame w width bits taken last distance =
       bits = bits;
       taken = omega arith;
       last = last ∙ ap (slice_index frame) (let e : 3 ≡ w.taken - 1 = omega arith in e);
-      number = omega arith
+      number = omega arith;
     }
 
 abbrev pub pace_with : ℕ → ℕ → Pace
@@ -69,7 +69,7 @@ narrowed_shows frame w r i part lower upper cut above below width distance bits 
       bits = omega arith;
       taken = omega arith;
       last = last ∙ shows.last ∙ ap (λ n. slice_index frame (n - 1)) (sym taken);
-      number = omega arith
+      number = omega arith;
     }
 
 pub narrowed_paces : (w : Window) (part : Part) (lower upper width bits : ℕ) → IsCut w.width part lower upper
@@ -106,17 +106,17 @@ more_shows frame w r i narrow byte last width distance bits taken next shows =
     let small : i.width ≤ 2 ^ 23 = omega arith in
     let before : (w.taken - 1) + 1 ≡ w.taken = omega arith in
     let head_is : head frame (31 + (i.shift + 8)) ≡ head frame (31 + i.shift) * 256 + (w.last % 2 * 128 + slice_index frame w.taken / 2) =
-        head_more frame (w.taken - 1) i.shift (omega arith)
-        ∙ ap (λ n. head frame (31 + i.shift) * 256 + (n % 2 * 128 + slice_index frame ((w.taken - 1) + 1) / 2)) (sym shows.last)
-        ∙ ap (λ n. head frame (31 + i.shift) * 256 + (w.last % 2 * 128 + slice_index frame n / 2)) before in
+    head_more frame (w.taken - 1) i.shift (omega arith)
+    ∙ ap (λ n. head frame (31 + i.shift) * 256 + (n % 2 * 128 + slice_index frame ((w.taken - 1) + 1) / 2)) (sym shows.last)
+    ∙ ap (λ n. head frame (31 + i.shift) * 256 + (w.last % 2 * 128 + slice_index frame n / 2)) before in
     let shown : Shows frame r (wider i) =
-        record {
-          width = omega arith;
-          bits = omega arith;
-          taken = omega arith;
-          last = next ∙ ap (slice_index frame) (let e : w.taken ≡ r.taken - 1 = omega arith in e);
-          number = omega arith
-        } in
+    record {
+      width = omega arith;
+      bits = omega arith;
+      taken = omega arith;
+      last = next ∙ ap (slice_index frame) (let e : w.taken ≡ r.taken - 1 = omega arith in e);
+      number = omega arith;
+    } in
     subst (Shows frame r) (sym (grown_grows i small)) shown
 
 pub more_paces : (w : Window) (width bits : ℕ) → w.width ≤ 2 ^ 23 → width ≡ w.width * 256 → bits ≡ w.bits + 8

@@ -14,3 +14,7 @@ head frame bits = front frame (bits / 8 + 1) / 2 ^ (8 - bits % 8)
 -- lowest bit of the last byte towards the front. A bit past the front is 0.
 unfoldable pub tail : List ℕ → ℕ → ℕ → ℕ
 tail frame from count = front frame (length frame) / 2 ^ from % 2 ^ count
+
+-- The bit at a place from the front, the most significant bit of the first byte being at 0.
+abbrev pub bit_at : List ℕ → ℕ → ℕ
+bit_at frame place = slice_index frame (place / 8) / 2 ^ (7 - place % 8) % 2

@@ -23,6 +23,6 @@ pub record StandsFor (frame : List ℕ) (r : Reader) (list : List Answered) : Ty
 -- this question and answer.
 pub record Reads (before : Reader) (question : Question) (answer : ℤ) (now : Reader) : Type 0 where
   pub longer : (frame : List ℕ) (list : List Answered) → StandsFor frame before list
-    → StandsFor frame now (list ++ record { question = question; answer = answer } ∷ [])
+      → StandsFor frame now (list ++ record { question = question; answer = answer } ∷ [])
   pub answers : (frame : List ℕ) (list : List Answered) → StandsFor frame before list
-    → Answers frame (interval_of list) question answer
+      → Answers frame (interval_of list) question answer

@@ -4,10 +4,12 @@
 mod laws;
 mod logarithm;
 mod reader;
+#[cfg(test)]
+mod tests;
 mod window;
 
 pub use laws::{
-    law_answers_determined, law_bit_answer, law_bit_parts, law_interval_end, law_one_pace,
-    law_readings_determined,
+    law_answers_determined, law_bit_answer, law_bit_parts, law_head, law_interval_end,
+    law_narrowing, law_one_pace, law_readings_determined,
 };
 pub use reader::Reader;

@@ -1,4 +1,4 @@
-use Rattle.std.proofs.Common.{◌≡◌, ◌-◌, ◌*◌, ◌/◌, ◌^◌, sym, subst, arith, ap, ◌∙◌}
+use Rattle.std.proofs.Common.{◌-◌, ◌*◌, ◌/◌, ◌^◌, sym, subst, arith, ap, ◌∙◌}
 use Rattle.celt_base.specs.Paces.{tell_frac_of, eighths_from}
 use Rattle.range_coder.proofs.Digits.{HasLength, length_is}
 use Rattle.range_coder.proofs.reader.Reader.tell_frac.Goals as goal

@@ -1,4 +1,4 @@
-use Rattle.std.proofs.Common.{◌≤◌, ◌^◌, arith, refl}
+use Rattle.std.proofs.Common.{arith, refl}
 use Rattle.range_coder.proofs.Showing.{wide_shows, wide_paces, more_shows, more_paces}
 use Rattle.range_coder.specs.Windows.{window_pace}
 use Rattle.range_coder.proofs.window.Window.grow.Goals as goal

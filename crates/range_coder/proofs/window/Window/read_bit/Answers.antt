@@ -1,5 +1,5 @@
-use Rattle.std.proofs.Common.{◌≡◌, ◌/◌, ◌^◌, ◌≤◌, arith, refl, ap, ◌∙◌}
-use Rattle.celt_base.specs.Intervals.{InPart, narrowed, grown, after}
+use Rattle.std.proofs.Common.{ap, ◌∙◌}
+use Rattle.celt_base.specs.Intervals.{narrowed, after}
 use Rattle.celt_base.specs.Paces.{grown_pace, after_pace}
 use Rattle.celt_base.specs.Questions.{part_of, bit_row}
 use Rattle.range_coder.proofs.Parts.{one_is_cut, zero_is_cut}
@@ -20,7 +20,7 @@ unfolding after_pace
 returns-then-self-upper-clause-pace c =
     c.grow_wide.ensures.pace
     ∙ ap (λ pace. grown_pace (grown_pace (grown_pace pace)))
-      (c.narrow.ensures.pace (part_of (bit_row c.args.p) 1) (one_is_cut c.args.self.width c.args.p c.requires.some))
+    (c.narrow.ensures.pace (part_of (bit_row c.args.p) 1) (one_is_cut c.args.self.width c.args.p c.requires.some))
 
 pub returns-else-self-upper-clause-holds : goal.returns-else-self-upper-clause-holds
 returns-else-self-upper-clause-holds c =
@@ -37,4 +37,4 @@ unfolding after_pace
 returns-else-self-upper-clause-pace c =
     c.grow_wide-else-self-upper.ensures.pace
     ∙ ap (λ pace. grown_pace (grown_pace (grown_pace pace)))
-      (c.narrow-else-self-upper.ensures.pace (part_of (bit_row c.args.p) 0) (zero_is_cut c.args.self.width c.args.p c.requires.some))
+    (c.narrow-else-self-upper.ensures.pace (part_of (bit_row c.args.p) 0) (zero_is_cut c.args.self.width c.args.p c.requires.some))
