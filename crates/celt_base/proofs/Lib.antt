@@ -1,2 +1,5 @@
 pub mod Causes
+pub mod Narrowing
+pub mod PaceSteps
+pub mod Rows
 pub mod Unread

@@ -1,6 +1,9 @@
 pub mod Ends
+pub mod Intervals
 pub mod Kinds
 pub mod Memory
 pub mod MemorySides
 pub mod Outside
+pub mod Paces
+pub mod Questions
 pub mod Statuses

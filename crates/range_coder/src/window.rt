@@ -1,0 +1,138 @@
+//! The window through which a reader sees its frame. The standard's decoder keeps the same state (RFC 6716, sections
+//! 4.1.1 and 4.1.2): how far the frame's number is below the last number of the interval, rather than the number.
+ghost use Rattle.std.specs.Prelude.{◌≡◌, ℕ, ◌+◌, ◌*◌, ◌^◌, ◌<◌, ◌≤◌, List, min, slice_index};
+
+/// The state of a reader over its frame.
+#[derive(Clone, Copy, Debug)]
+pub struct Window {
+    /// The width of the interval, the standard's rng.
+    pub width: u32,
+    /// How many numbers of the interval are above the frame's number, the standard's val.
+    pub distance: u32,
+    /// The count of bits, the standard's nbits_total.
+    pub bits: u32,
+    /// How many bytes were taken from the front of the frame. The lowest bit of the last one is not yet in the number.
+    pub taken: usize,
+    /// The last byte that was taken.
+    pub last: u8,
+    ghost inside: { distance < width },
+    ghost narrow: { width ≤ 2 ^ 31 },
+    ghost begun: { 33 ≤ bits },
+    ghost counted: { 8 * taken < bits },
+}
+
+/// A byte of the frame; 0 past its end.
+fn byte_at(frame: &[u8], place: usize) -> u8
+    ensures { result ≡ slice_index frame.now place }
+{
+    frame.get(place).copied().unwrap_or(0)
+}
+
+impl Window {
+    ghost use Rattle.celt_base.specs.Intervals.{Part, Interval, InPart, whole, narrowed, grown, after};
+    ghost use Rattle.celt_base.specs.Paces.{narrowed_pace, grown_pace, after_pace};
+    ghost use Rattle.celt_base.specs.Questions.{bit_row, part_of};
+    ghost use Rattle.range_coder.specs.Reading.{Holds};
+    ghost use Rattle.range_coder.specs.Windows.{IsCut, Shows, window_pace};
+
+    /// The window at the start of a frame: four bytes are taken.
+    pub fn new(frame: &[u8]) -> Window
+        ensures shows { Shows frame.now result whole }
+        ensures width { result.width ≡ 2 ^ 31 }
+        ensures bits { result.bits ≡ 33 }
+    {
+        let last = byte_at(frame, 3);
+        let first = u32::from(byte_at(frame, 0));
+        let second = u32::from(byte_at(frame, 1));
+        let third = u32::from(byte_at(frame, 2));
+        let word = ((first * 256 + second) * 256 + third) * 256 + u32::from(last);
+        Window {
+            width: 0x8000_0000,
+            distance: 0x7fff_ffff - word / 2,
+            bits: 33,
+            taken: 4,
+            last,
+        }
+    }
+
+    /// Narrows to the part between two depths: how far its lower and its upper end lie below the interval's upper end.
+    fn narrow(self, lower: u32, upper: u32) -> Window
+        requires holds_upper { upper ≤ self.distance }
+        requires holds_lower { self.distance < lower }
+        requires within { lower ≤ self.width }
+        ensures shows { (frame : List ℕ) (i : Interval) (part : Part) → IsCut self.width part lower upper
+            → Shows frame self i → Shows frame result (narrowed part i) }
+        ensures holds { (frame : List ℕ) (i : Interval) (part : Part) → IsCut self.width part lower upper
+            → Shows frame self i → Holds frame (narrowed part i) }
+        ensures pace { (part : Part) → IsCut self.width part lower upper
+            → window_pace result ≡ narrowed_pace part (window_pace self) }
+        ensures bits { result.bits ≡ self.bits }
+    {
+        Window {
+            width: lower - upper,
+            distance: self.distance - upper,
+            bits: self.bits,
+            taken: self.taken,
+            last: self.last,
+        }
+    }
+
+    /// Takes a byte where the width is at most 2^23 (RFC 6716, section 4.1.2.1).
+    fn grow(self, frame: &[u8]) -> Window
+        requires { self.bits < 2 ^ 31 }
+        ensures shows { (i : Interval) → Shows frame.now self i → Shows frame.now result (grown i) }
+        ensures pace { window_pace result ≡ grown_pace (window_pace self) }
+        ensures wider { min (2 ^ 23 + 1) (self.width * 256) ≤ result.width }
+        ensures bits { result.bits ≤ self.bits + 8 }
+    {
+        if self.width > 1 << 23 {
+            return self;
+        }
+        let next = byte_at(frame, self.taken);
+        let byte = u32::from(self.last) % 2 * 128 + u32::from(next) / 2;
+        Window {
+            width: self.width * 256,
+            distance: self.distance * 256 + 255 - byte,
+            bits: self.bits + 8,
+            taken: self.taken + 1,
+            last: next,
+        }
+    }
+
+    /// Takes bytes until the width is above 2^23.
+    fn grow_wide(self, frame: &[u8]) -> Window
+        requires { self.bits < 2 ^ 30 }
+        ensures shows { (i : Interval) → Shows frame.now self i
+            → Shows frame.now result (grown (grown (grown i))) }
+        ensures pace { window_pace result ≡ grown_pace (grown_pace (grown_pace (window_pace self))) }
+        ensures wide { 2 ^ 23 < result.width }
+        ensures bits { result.bits ≤ self.bits + 24 }
+    {
+        self.grow(frame).grow(frame).grow(frame)
+    }
+
+    /// The answer of Bit(p), and the window after it. No division is needed: its parts meet at `width >> p` below the
+    /// upper end.
+    pub fn read_bit(self, frame: &[u8], p: u32) -> (u32, Window)
+        requires some { 1 ≤ p }
+        requires most { p ≤ 15 }
+        requires wide { 2 ^ 23 < self.width }
+        requires bits { self.bits < 2 ^ 30 }
+        ensures bit { result.0 < 2 }
+        ensures holds { (i : Interval) → Shows frame.now self i
+            → Holds frame.now (narrowed (part_of (bit_row p) result.0) i) }
+        ensures shows { (i : Interval) → Shows frame.now self i
+            → Shows frame.now result.1 (after i (InPart (part_of (bit_row p) result.0))) }
+        ensures pace { window_pace result.1
+            ≡ after_pace (window_pace self) (InPart (part_of (bit_row p) result.0)) }
+        ensures wide { 2 ^ 23 < result.1.width }
+        ensures grown { result.1.bits ≤ self.bits + 24 }
+    {
+        let upper = self.width >> p;
+        if self.distance < upper {
+            (1, self.narrow(upper, 0).grow_wide(frame))
+        } else {
+            (0, self.narrow(self.width, upper).grow_wide(frame))
+        }
+    }
+}
