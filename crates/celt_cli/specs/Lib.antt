@@ -1,0 +1,4 @@
+pub mod Decoding
+pub mod Form
+pub mod Outcomes
+pub mod Progressing

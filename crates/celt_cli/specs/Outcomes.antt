@@ -1,0 +1,58 @@
+-- The status that a limit and the bytes of the input give, and what each status says of the output.
+use Rattle.std.specs.Prelude.{◌≡◌, ℕ, Bool, true, false, List, length, take, Option, None, Some, nat_lt, ⊤}
+use Rattle.std.specs.Io.KnownBytes.{Appends}
+use Rattle.celt_base.specs.declared.status.Fault.{Fault}
+use Rattle.celt_base.specs.declared.status.FaultName.{FaultName}
+use Rattle.celt_base.specs.declared.status.FaultName.TheVariants as names
+use Rattle.celt_base.specs.declared.status.Status.{Status}
+use Rattle.celt_base.specs.declared.status.Status.TheVariants as statuses
+use Rattle.celt_base.specs.Outside.{AppendsFront}
+use Rattle.celt_cli.specs.Decoding.{full, running, fault_of}
+
+-- The faults that more bytes could mend.
+abbrev pub is_end_name : FaultName → Bool
+is_end_name names.Truncated = true
+is_end_name names.NoData = true
+is_end_name names.DataTruncated = true
+is_end_name _ = false
+
+-- The status of an input that ends within the limit, and of one that does not.
+abbrev pub ended_status : Option Fault → Status
+ended_status None = statuses.Done
+ended_status (Some fault) = statuses.Refused fault
+
+abbrev pub cut_status_by : Bool → Fault → Status
+cut_status_by true fault = statuses.InputTooLong
+cut_status_by false fault = statuses.Refused fault
+
+abbrev pub cut_status : Option Fault → Status
+cut_status None = statuses.InputTooLong
+cut_status (Some fault) = cut_status_by (is_end_name fault.name) fault
+
+abbrev pub status_by : Bool → Option Fault → Status
+status_by true fault = cut_status fault
+status_by false fault = ended_status fault
+
+-- The first `limit` bytes are read, and whether there is one more is found out.
+unfoldable pub wanted : ℕ → List ℕ → Status
+wanted limit bytes = status_by (nat_lt limit (length bytes)) (fault_of (take limit bytes))
+
+-- The status is the wanted one, or a failure of the outside.
+abbrev pub Answers : Status → Status → Type 0
+Answers want statuses.Done = want ≡ statuses.Done
+Answers want (statuses.Refused fault) = want ≡ statuses.Refused fault
+Answers want statuses.InputTooLong = want ≡ statuses.InputTooLong
+Answers want statuses.Usage = ⊥
+Answers want statuses.ReadFault = ⊤
+Answers want statuses.WriteFault = ⊤
+Answers want statuses.NoMemory = ⊤
+
+-- What was added to the output.
+abbrev pub Writes : ℕ → List ℕ → Option (List ℕ) → Option (List ℕ) → Status → Type 0
+Writes limit bytes old new statuses.Done = Appends old new (full bytes)
+Writes limit bytes old new (statuses.Refused fault) = Appends old new (full bytes)
+Writes limit bytes old new statuses.InputTooLong = Appends old new (running (take limit bytes))
+Writes limit bytes old new statuses.Usage = AppendsFront old new (full bytes)
+Writes limit bytes old new statuses.ReadFault = AppendsFront old new (full bytes)
+Writes limit bytes old new statuses.WriteFault = AppendsFront old new (full bytes)
+Writes limit bytes old new statuses.NoMemory = AppendsFront old new (full bytes)

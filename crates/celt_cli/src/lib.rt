@@ -1,0 +1,5 @@
+//! The words of the program and its commands over a source and sinks.
+#![tactic(auto)]
+
+pub mod form;
+pub mod progress;
