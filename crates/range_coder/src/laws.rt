@@ -9,7 +9,7 @@ ghost use Rattle.celt_base.specs.Paces.{pace_of};
 ghost use Rattle.range_coder.specs.declared.reader.Reader.{Reader};
 ghost use Rattle.range_coder.specs.FrameBits.{head, bit_at};
 ghost use Rattle.range_coder.specs.Reading.{Answers, AnswersFrom, bit_of, first_bit};
-ghost use Rattle.range_coder.specs.Readers.{StandsFor, reader_pace};
+ghost use Rattle.range_coder.specs.Readers.{StandsFor, reader_pace, reader_count};
 
 /// The head of a frame is the number of its first bits, most significant first (RFC 6716, section 4.1).
 pub fn law_head()
@@ -48,6 +48,14 @@ pub fn law_one_pace()
         → reader_pace r ≡ pace_of (interval_of list) }
     ensures two { (frame : List ℕ) (r s : Reader) (list : List Answered) → StandsFor frame r list
         → StandsFor frame s list → reader_pace r ≡ reader_pace s }
+{}
+
+/// The pace of every reader: the width is above 2^23 and at most 2^31, and a question takes at most 40 bits.
+pub fn law_pace_bounds()
+    ensures width { (r : Reader)
+        → (2 ^ 23 < (reader_pace r).width) × ((reader_pace r).width ≤ 2 ^ 31) }
+    ensures bits { (r : Reader)
+        → (33 ≤ (reader_pace r).bits) × ((reader_pace r).bits ≤ 33 + 40 * reader_count r) }
 {}
 
 /// A frame has at most one answer of a question.

@@ -10,6 +10,6 @@ mod window;
 
 pub use laws::{
     law_answers_determined, law_bit_answer, law_bit_parts, law_head, law_interval_end,
-    law_narrowing, law_one_pace, law_readings_determined,
+    law_narrowing, law_one_pace, law_pace_bounds, law_readings_determined,
 };
 pub use reader::Reader;

@@ -1,5 +1,5 @@
 //! A reader answers the questions of a frame from its bytes (RFC 6716, section 4.1).
-ghost use Rattle.std.specs.Prelude.{◌≡◌, ℕ, ◌+◌, ◌*◌, ◌^◌, ◌<◌, ◌≤◌, ◌↔◌, List, [], length};
+ghost use Rattle.std.specs.Prelude.{◌≡◌, ℕ, ◌+◌, ◌*◌, ◌^◌, ◌<◌, ◌≤◌, List, [], length};
 ghost use Rattle.celt_base.specs.Questions.{Answered, IsValid, IsAnswer};
 ghost use Rattle.celt_base.specs.Paces.{paced, tell_of, tell_frac_of};
 
@@ -8,9 +8,11 @@ use crate::window::Window;
 use celt_base::question::Question;
 
 /// The reader of one frame. A question narrows its interval to the part that holds the frame's number.
-#[derive(Clone, Copy, Debug)]
+#[derive(Debug, Drop)]
 pub struct Reader<'a> {
+    /// The bytes of the frame.
     frame: &'a [u8],
+    /// Where the frame's number stands in the interval, and the pace.
     window: Window,
     /// How many questions were asked.
     asked: u32,
