@@ -2,3 +2,4 @@ pub mod Decoding
 pub mod Form
 pub mod Outcomes
 pub mod Progressing
+pub mod Silences

@@ -1,5 +1,6 @@
 //! The words of the program and its commands over a source and sinks.
 #![tactic(auto)]
 
+pub mod decoding;
 pub mod form;
 pub mod progress;
