@@ -1,3 +1,4 @@
 pub mod Accepting
+pub mod Read
 pub mod Samples
 pub mod Walking

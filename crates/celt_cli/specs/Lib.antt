@@ -2,4 +2,5 @@ pub mod Decoding
 pub mod Form
 pub mod Outcomes
 pub mod Progressing
+pub mod Reads
 pub mod Silences

@@ -4,3 +4,4 @@
 pub mod decoding;
 pub mod form;
 pub mod progress;
+pub mod reading;
