@@ -1,0 +1,12 @@
+//! Opus packets and the header packets of an Ogg Opus stream: a packet is cut into its frames and
+//! written from them (RFC 6716, section 3), and the identification header is read and written
+//! (RFC 7845, section 5). No call takes memory.
+#![tactic(auto)]
+
+mod fault;
+mod header;
+mod packet;
+
+pub use fault::PacketFault;
+pub use header::{Head, HeadFault, read_head, write_head, write_tags};
+pub use packet::Frames;
