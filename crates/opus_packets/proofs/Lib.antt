@@ -1,1 +1,3 @@
+pub mod Codings
+pub mod Cuts
 pub mod Headers

@@ -2,6 +2,7 @@
 -- the rules R1 to R7 are those of section 3.4).
 use Rattle.std.specs.Prelude.{◌≡◌, ℕ, zero, suc, ◌+◌, ◌-◌, ◌*◌, ◌/◌, ◌%◌, ◌<◌, ◌≤◌, Bool, true, false, not, ◌||◌, ◌==◌, nat_lt, if◌then◌else◌, List, [], ◌∷◌, ◌++◌, length, drop, replicate, sum, slice_index, Option, Some, None, option_map, option_and_then, Result, Ok, Err}
 use Rattle.opus_packets.specs.Cut.{Cut}
+use Rattle.opus_packets.specs.declared.octets.Coded.{Coded}
 use Rattle.opus_packets.specs.declared.fault.PacketFault.{PacketFault}
 use Rattle.opus_packets.specs.declared.fault.PacketFault.TheVariants.{R1, R2, R3, R4, R5, R6, R7}
 
@@ -24,11 +25,7 @@ duration_of config =
     if nat_lt config 16 then slice_index (480 ∷ 960 ∷ []) (config % 2) else
     slice_index (120 ∷ 240 ∷ 480 ∷ 960 ∷ []) (config % 4)
 
--- A NUMBER IN OCTETS: what it is, and how many octets say so.
-
-pub record Coded : Type 0 where
-  pub value : ℕ
-  pub taken : ℕ
+-- NUMBERS IN OCTETS, with how many octets say so.
 
 -- the length of a frame (section 3.2.1): one octet below 252, or an octet f of 252 to 255 and a second
 -- octet s for f + 4 * s
@@ -42,33 +39,37 @@ length_at (f ∷ rest) = if nat_lt f 252 then Some (record { value = f; taken = 
 
 -- the octets of padding (section 3.2.5): an octet of 255 stands for 254 of them, and the next octet
 -- goes on; one below 255 stands for as many as it says, and is the last
+abbrev pub with_254_more : Coded → Coded
+with_254_more next = record { value = 254 + next.value; taken = 1 + next.taken }
+
 unfoldable pub padding_at : List ℕ → Option Coded
 padding_at [] = None
-padding_at (p ∷ rest) = if p == 255 then option_map more (padding_at rest) else Some (record { value = p; taken = 1 })
-  where
-    more : Coded → Coded
-    more next = record { value = 254 + next.value; taken = 1 + next.taken }
+padding_at (p ∷ rest) =
+    if p == 255 then option_map with_254_more (padding_at rest) else Some (record { value = p; taken = 1 })
+
+-- a padding that fits into so many octets with those that say so
+abbrev pub fitting : ℕ → Option Coded → Option Coded
+fitting room None = None
+fitting room (Some p) = if nat_lt room (p.taken + p.value) then None else Some p
 
 -- the padding of a packet, whose bytes from the third on these are: none where its flag is clear, and
 -- else what its octets say, where they are whole and it fits
 unfoldable pub padding_of : Bool → List ℕ → Option Coded
-padding_of padded bytes = if padded then fitting (padding_at bytes) else Some (record { value = 0; taken = 0 })
-  where
-    fitting : Option Coded → Option Coded
-    fitting None = None
-    fitting (Some p) = if nat_lt (length bytes) (p.taken + p.value) then None else Some p
+padding_of padded bytes =
+    if padded then fitting (length bytes) (padding_at bytes) else Some (record { value = 0; taken = 0 })
 
 -- the lengths of the n frames that begin the bytes, and how many octets say so
 pub record Lengths : Type 0 where
   pub values : List ℕ
   pub taken : ℕ
 
+abbrev pub with_first : Coded → Lengths → Lengths
+with_first l rest = record { values = l.value ∷ rest.values; taken = l.taken + rest.taken }
+
 unfoldable pub lengths_at : ℕ → List ℕ → Option Lengths
 lengths_at zero bytes = Some (record { values = []; taken = 0 })
-lengths_at (suc n) bytes = option_and_then (λ l. option_map (before l) (lengths_at n (drop l.taken bytes))) (length_at bytes)
-  where
-    before : Coded → Lengths → Lengths
-    before l more = record { values = l.value ∷ more.values; taken = l.taken + more.taken }
+lengths_at (suc n) bytes =
+    option_and_then (λ l. option_map (with_first l) (lengths_at n (drop l.taken bytes))) (length_at bytes)
 
 -- THE FOUR CODES. The bytes are a whole packet's.
 

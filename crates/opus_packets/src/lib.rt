@@ -4,9 +4,12 @@
 #![tactic(auto)]
 
 mod fault;
+mod frames;
 mod header;
+mod octets;
 mod packet;
 
 pub use fault::PacketFault;
 pub use header::{Head, HeadFault, read_head, write_head, write_tags};
-pub use packet::Frames;
+pub use frames::Frames;
+pub use packet::split;

@@ -1,101 +1,180 @@
 //! Cutting an Opus packet into its frames (RFC 6716, section 3).
-ghost use Rattle.std.specs.Prelude.{◌≡◌, ◌+◌, ◌*◌, ◌≤◌, ◌<◌, ◌↔◌, IsTrue, Some, length, slice_get, slice_index, slice_range, sum};
-ghost use Rattle.opus_packets.specs.Cut.{start_of, end_of, frames_of};
-ghost use Rattle.opus_packets.specs.Packet.{config_of, is_stereo, duration_of, cut_of};
+ghost use Rattle.std.specs.Prelude.{◌≡◌, ◌+◌, ◌*◌, ◌≤◌, ◌<◌, length, drop, replicate};
+ghost use Rattle.std.specs.Option.{ForSome};
+ghost use Rattle.opus_packets.specs.Packet.{one_frame, two_equal_frames, two_frames, length_at, equal_frames, frames_with_lengths, many_frames, cut_of};
 
 use crate::fault::PacketFault;
+use crate::frames::{Frames, MOST_FRAMES, duration};
+use crate::octets::{Coded, length_at, lengths_at, padding_of};
 use arrayvec::ArrayVec;
-use std::marker::Model;
 
-/// The greatest number of frames of a packet: 48 frames of 2.5 ms last 120 ms.
-const MOST_FRAMES: usize = 48;
+/// The greatest length of a frame in bytes (RFC 6716, section 3.2.1).
+const LONGEST_FRAME: usize = 1275;
 
-/// An Opus packet with its frames, which are slices of it, one behind the other.
-#[derive(Drop)]
-pub struct Frames<'a> {
-    packet: &'a [u8],
-    // The place of the first frame.
-    first: usize,
-    lengths: ArrayVec<u16, MOST_FRAMES>,
-}
+/// The samples at 48 kHz in 120 ms, the greatest duration of a packet (RFC 6716, section 3.2.5).
+const LONGEST_PACKET: u32 = 5760;
 
-impl<'a> Model for Frames<'a> {
-    ghost use Rattle.opus_packets.specs.Cut.{Cut, IsWithin};
-
-    ghost Value = { Cut };
-
-    ghost view = { λ f. record { packet = f.packet.now; first = f.first; lengths = f.lengths.items } };
-
-    ghost invariant = { λ f. IsWithin (record { packet = f.packet.now; first = f.first; lengths = f.lengths.items }) };
-}
-
-impl<'a> Frames<'a> {
-    /// The configuration, 0 to 31, in the five high bits of the first byte (RFC 6716, section 3.1).
-    pub fn config(&self) -> u32
-        ensures { result ≡ config_of (slice_index self.now.packet 0) }
-    {
-        u32::from(self.packet[0]) / 8
-    }
-
-    /// Whether the frames have two channels (RFC 6716, section 3.1).
-    pub fn stereo(&self) -> bool
-        ensures { result ≡ is_stereo (slice_index self.now.packet 0) }
-    {
-        self.packet[0] / 4 % 2 == 1
-    }
-
-    /// The samples per channel at 48 kHz of all the frames.
-    pub fn samples(&self) -> u32
-        ensures { result ≡ length self.now.lengths * duration_of (config_of (slice_index self.now.packet 0)) }
-    {
-        self.lengths.len() as u32 * duration(self.config())
-    }
-
-    /// The number of frames.
-    pub fn len(&self) -> usize
-        ensures { result ≡ length self.now.lengths }
-    {
-        self.lengths.len()
-    }
-
-    /// The bytes of frame `i`. One of 0 or 1 bytes stands for a frame that was lost or not sent.
-    pub fn frame(&self, i: usize) -> &'a [u8]
-        requires { i < length self.now.lengths }
-        ensures place { result.now ≡ slice_range self.now.packet (start_of self.now i) (end_of self.now i) }
-        ensures item { slice_get (frames_of self.now) i ≡ Some result.now }
-    {
-        let start = self.start(i);
-        &self.packet[start..start + usize::from(self.lengths[i])]
-    }
-
-    /// The place in the packet at which frame `i` begins.
-    fn start(&self, i: usize) -> usize
-        requires { i < length self.now.lengths }
-        ensures { result ≡ start_of self.now i }
-    {
-        let mut start = self.first;
-        for k in 0..i {
-            start += usize::from(self.lengths[k]);
-        }
-        start
-    }
-}
-
-/// The samples at 48 kHz that a frame of a configuration lasts (RFC 6716, section 3.1, table 2).
-fn duration(config: u32) -> u32
-    ensures value { result ≡ duration_of config }
-    ensures bound { result ≤ 2880 }
+/// Cuts a packet into its frames (RFC 6716, section 3).
+///
+/// # Errors
+///
+/// The first rule of section 3.4 that the packet breaks.
+#[tactic(auto, unfolding(crate::specs::Packet::cut_of))]
+pub fn split(packet: &[u8]) -> Result<Frames<'_>, PacketFault>
+    ensures { result ≡ cut_of packet.now }
 {
-    match (config, config % 4) {
-        (0..12, 0) => 480,
-        (0..12, 1) => 960,
-        (0..12, 2) => 1920,
-        (0..12, _) => 2880,
-        (12..16, 0 | 2) => 480,
-        (12..16, _) => 960,
-        (_, 0) => 120,
-        (_, 1) => 240,
-        (_, 2) => 480,
-        (_, _) => 960,
+    if packet.is_empty() {
+        return Err(PacketFault::R1);
     }
+    match packet[0] % 4 {
+        0 => one_frame(packet),
+        1 => two_equal_frames(packet),
+        2 => two_frames(packet),
+        _ => many_frames(packet),
+    }
+}
+
+/// Code 0 (RFC 6716, section 3.2.2): one frame.
+#[tactic(auto, unfolding(crate::specs::Packet::one_frame))]
+fn one_frame(packet: &[u8]) -> Result<Frames<'_>, PacketFault>
+    requires { 1 ≤ length packet.now }
+    ensures { result ≡ one_frame packet.now }
+{
+    let size = packet.len() - 1;
+    if size > LONGEST_FRAME {
+        return Err(PacketFault::R2);
+    }
+    let mut lengths = ArrayVec::new();
+    lengths.push(size as u16);
+    Ok(Frames::new(packet, 1, lengths))
+}
+
+/// Code 1 (RFC 6716, section 3.2.3): two frames of one length.
+#[tactic(auto, unfolding(crate::specs::Packet::two_equal_frames))]
+fn two_equal_frames(packet: &[u8]) -> Result<Frames<'_>, PacketFault>
+    requires { 1 ≤ length packet.now }
+    ensures { result ≡ two_equal_frames packet.now }
+{
+    if packet.len() % 2 == 0 {
+        return Err(PacketFault::R3);
+    }
+    let size = (packet.len() - 1) / 2;
+    if size > LONGEST_FRAME {
+        return Err(PacketFault::R2);
+    }
+    let mut lengths = ArrayVec::new();
+    lengths.push(size as u16);
+    lengths.push(size as u16);
+    Ok(Frames::new(packet, 1, lengths))
+}
+
+/// Code 2 (RFC 6716, section 3.2.4): two frames, and the length of the first.
+#[tactic(auto, unfolding(crate::specs::Packet::two_frames))]
+fn two_frames(packet: &[u8]) -> Result<Frames<'_>, PacketFault>
+    requires { 1 ≤ length packet.now }
+    ensures { result ≡ two_frames packet.now (length_at (drop 1 packet.now)) }
+{
+    let (_, rest) = packet.split_at(1);
+    let Some(length) = length_at(rest) else {
+        return Err(PacketFault::R4);
+    };
+    let used = 1 + length.taken + length.value;
+    if packet.len() < used {
+        return Err(PacketFault::R4);
+    }
+    let last = packet.len() - used;
+    if last > LONGEST_FRAME {
+        return Err(PacketFault::R2);
+    }
+    let mut lengths = ArrayVec::new();
+    lengths.push(length.value as u16);
+    lengths.push(last as u16);
+    Ok(Frames::new(packet, 1 + length.taken, lengths))
+}
+
+/// Code 3 (RFC 6716, section 3.2.5): the second byte says how many frames, and which other fields
+/// there are.
+#[tactic(auto, unfolding(crate::specs::Packet::many_frames))]
+fn many_frames(packet: &[u8]) -> Result<Frames<'_>, PacketFault>
+    requires { 1 ≤ length packet.now }
+    ensures { result ≡ many_frames packet.now }
+{
+    if packet.len() == 1 {
+        return Err(PacketFault::R6);
+    }
+    let octet = packet[1];
+    let count = octet % 64;
+    if count == 0 || u32::from(count) * duration(u32::from(packet[0]) / 8) > LONGEST_PACKET {
+        return Err(PacketFault::R5);
+    }
+    let (_, rest) = packet.split_at(2);
+    let padding = padding_of(octet / 64 % 2 == 1, rest);
+    if octet / 128 % 2 == 1 {
+        frames_with_lengths(usize::from(count), packet, padding)
+    } else {
+        equal_frames(usize::from(count), packet, padding)
+    }
+}
+
+/// The frames of a code 3 packet that are all of one length.
+#[tactic(auto, unfolding(crate::specs::Packet::equal_frames))]
+fn equal_frames(count: usize, packet: &[u8], padding: Option<Coded>) -> Result<Frames<'_>, PacketFault>
+    requires some { 1 ≤ count }
+    requires few { count ≤ 48 }
+    requires long { 2 ≤ length packet.now }
+    requires padded { ForSome padding (λ p. 2 + p.taken + p.value ≤ length packet.now) }
+    ensures { result ≡ equal_frames count packet.now padding }
+{
+    let Some(padding) = padding else {
+        return Err(PacketFault::R6);
+    };
+    let room = packet.len() - (2 + padding.taken + padding.value);
+    if room % count != 0 {
+        return Err(PacketFault::R6);
+    }
+    let size = room / count;
+    if size > LONGEST_FRAME {
+        return Err(PacketFault::R2);
+    }
+    Ok(Frames::new(packet, 2 + padding.taken, copies(size as u16, count)))
+}
+
+/// A length, `count` times.
+fn copies(length: u16, count: usize) -> ArrayVec<u16, MOST_FRAMES>
+    requires { count ≤ 48 }
+    ensures { result.items ≡ replicate count length }
+{
+    let mut lengths = ArrayVec::new();
+    for _ in 0..count {
+        lengths.push(length);
+    }
+    lengths
+}
+
+/// The frames of a code 3 packet that says the lengths of all but the last.
+#[tactic(auto, unfolding(crate::specs::Packet::frames_with_lengths, crate::specs::Packet::given_frames))]
+fn frames_with_lengths(count: usize, packet: &[u8], padding: Option<Coded>) -> Result<Frames<'_>, PacketFault>
+    requires some { 1 ≤ count }
+    requires few { count ≤ 48 }
+    requires long { 2 ≤ length packet.now }
+    requires padded { ForSome padding (λ p. 2 + p.taken + p.value ≤ length packet.now) }
+    ensures { result ≡ frames_with_lengths count packet.now padding }
+{
+    let Some(padding) = padding else {
+        return Err(PacketFault::R7);
+    };
+    let (_, rest) = packet.split_at(2 + padding.taken);
+    let Some(given) = lengths_at(count - 1, rest) else {
+        return Err(PacketFault::R7);
+    };
+    let used = 2 + padding.taken + padding.value + given.taken() + given.total();
+    if packet.len() < used {
+        return Err(PacketFault::R7);
+    }
+    let last = packet.len() - used;
+    if last > LONGEST_FRAME {
+        return Err(PacketFault::R2);
+    }
+    let first = 2 + padding.taken + given.taken();
+    Ok(Frames::new(packet, first, given.followed_by(last as u16)))
 }
