@@ -1,3 +1,6 @@
 pub mod Codings
 pub mod Cuts
 pub mod Headers
+pub mod Parts
+pub mod Tests
+pub mod Written
