@@ -1,5 +1,6 @@
 pub mod Codings
 pub mod Cuts
+pub mod FormsRead
 pub mod Headers
 pub mod Parts
 pub mod Tests
