@@ -1,8 +1,9 @@
 -- Lemmas on lengths and padding in octets, as loops read them one by one.
-use Rattle.std.proofs.Common.{◌≡◌, ℕ, zero, suc, ◌+◌, ◌-◌, ◌*◌, ◌<◌, ◌≤◌, List, [], ◌∷◌, ◌++◌, length, take, drop, sum, get_or, slice_index, Option, Some, None, option_map, refl, ap, arith, ◌∙◌, sym, add-zero, zero-add, add-one, append_assoc, min, nat_lt, ◌==◌, true, false, ◌≢◌, inl, inr}
+use Rattle.std.proofs.Common.{◌≡◌, ℕ, zero, suc, ◌+◌, ◌-◌, ◌*◌, ◌<◌, ◌≤◌, List, [], ◌∷◌, ◌++◌, All, length, take, drop, sum, get_or, slice_index, Option, Some, None, option_map, refl, ap, arith, ◌∙◌, sym, add-zero, zero-add, add-one, append_assoc, min, nat_lt, ◌==◌, true, false, ◌≢◌, inl, inr}
 use Rattle.std.proofs.lemmas.List.{drop-drop, drop_more, drop_all, append-nil, length_push, length-drop}
 use Rattle.std.proofs.Math.Nat.{sub-zero}
 use Rattle.std.proofs.lemmas.Bool.{cases_eq}
+use Rattle.std.proofs.lemmas.List.Elements.{All-push}
 use Rattle.std.proofs.lemmas.Bool.Decides.{nat_tests}
 use Rattle.opus_packets.specs.declared.octets.Coded.{Coded}
 use Rattle.opus_packets.specs.Packet.{length_at, lengths_at, padding_at, fitting, Lengths, with_first, with_254_more}
@@ -42,6 +43,7 @@ pub record Reading (n : ℕ) (bytes : List ℕ) (k t : ℕ) (vs : List ℕ) : Ty
   pub count : length vs ≡ k
   pub within : t ≤ length bytes
   pub short : t ≤ 2 * k
+  pub limited : All (λ v. v ≤ 1275) vs
   pub rest : lengths_at n bytes ≡ joined t vs (lengths_at (n - k) (drop t bytes))
 
 pub reading_start : (n : ℕ) (bytes : List ℕ) → Reading n bytes 0 0 []
@@ -49,16 +51,18 @@ reading_start n bytes = record {
   count = refl;
   within = omega arith;
   short = omega arith;
+  limited = λ k d less. absurd (omega arith);
   rest = rw (sub-zero n) (joined_start (lengths_at n bytes));
 }
 
-pub reading_more : (n k t : ℕ) (bytes vs ws : List ℕ) (c : Coded) → Reading n bytes k t vs → k < n → length_at (drop t bytes) ≡ Some c → c.taken ≤ length (drop t bytes) → c.taken ≤ 2 → ws ≡ vs ++ c.value ∷ [] → Reading n bytes (k + 1) (t + c.taken) ws
-reading_more n k t bytes vs ws c r less e fits two is =
+pub reading_more : (n k t : ℕ) (bytes vs ws : List ℕ) (c : Coded) → Reading n bytes k t vs → k < n → length_at (drop t bytes) ≡ Some c → c.taken ≤ length (drop t bytes) → c.taken ≤ 2 → c.value ≤ 1275 → ws ≡ vs ++ c.value ∷ [] → Reading n bytes (k + 1) (t + c.taken) ws
+reading_more n k t bytes vs ws c r less e fits two most is =
     let left : n - k ≡ suc (n - (k + 1)) = omega arith in
     record {
       count = ap length is ∙ length_push vs c.value ∙ ap (λ m. m + 1) r.count;
       within = omega (arith, length-drop t bytes, r.within);
       short = omega (arith, r.short);
+      limited = rw is (All-push (λ v. v ≤ 1275) vs c.value r.limited most);
       rest = rw is (r.rest ∙ ap (λ m. joined t vs (lengths_at m (drop t bytes))) left ∙ joined_more t (n - (k + 1)) vs bytes c e);
     }
 

@@ -28,9 +28,3 @@ parts (n ∷ ns) bytes = take n bytes ∷ parts ns (drop n bytes)
 -- the frames
 abbrev pub frames_of : Cut → List (List ℕ)
 frames_of cut = parts cut.lengths (drop cut.first cut.packet)
-
--- the frames lie within the packet and behind its first octet, and there are at most 48
-pub record IsWithin (cut : Cut) : Type 0 where
-  pub behind_toc : 1 ≤ cut.first
-  pub within : cut.first + sum cut.lengths ≤ length cut.packet
-  pub few : length cut.lengths ≤ 48

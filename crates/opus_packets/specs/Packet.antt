@@ -1,6 +1,6 @@
 -- How an Opus packet is cut into its frames, and the first rule that it breaks (RFC 6716, section 3;
 -- the rules R1 to R7 are those of section 3.4).
-use Rattle.std.specs.Prelude.{◌≡◌, ℕ, zero, suc, ◌+◌, ◌-◌, ◌*◌, ◌/◌, ◌%◌, ◌<◌, ◌≤◌, Bool, true, false, not, ◌||◌, ◌==◌, nat_lt, if◌then◌else◌, List, [], ◌∷◌, ◌++◌, length, drop, replicate, sum, slice_index, Option, Some, None, option_map, option_and_then, Result, Ok, Err}
+use Rattle.std.specs.Prelude.{◌≡◌, ℕ, All, zero, suc, ◌+◌, ◌-◌, ◌*◌, ◌/◌, ◌%◌, ◌<◌, ◌≤◌, Bool, true, false, not, ◌||◌, ◌==◌, nat_lt, if◌then◌else◌, List, [], ◌∷◌, ◌++◌, length, drop, replicate, sum, slice_index, Option, Some, None, option_map, option_and_then, Result, Ok, Err}
 use Rattle.opus_packets.specs.Cut.{Cut}
 use Rattle.opus_packets.specs.declared.octets.Coded.{Coded}
 use Rattle.opus_packets.specs.declared.fault.PacketFault.{PacketFault}
@@ -24,6 +24,20 @@ duration_of config =
     if nat_lt config 12 then slice_index (480 ∷ 960 ∷ 1920 ∷ 2880 ∷ []) (config % 4) else
     if nat_lt config 16 then slice_index (480 ∷ 960 ∷ []) (config % 2) else
     slice_index (120 ∷ 240 ∷ 480 ∷ 960 ∷ []) (config % 4)
+
+-- how long all the frames last
+abbrev pub samples_of : Cut → ℕ
+samples_of cut = length cut.lengths * duration_of (config_of (slice_index cut.packet 0))
+
+-- what holds of the frames of every packet: they lie behind its first octet and within it, there are 1
+-- to 48 of them, each has at most 1275 bytes, and they last at most 120 ms
+pub record IsCut (cut : Cut) : Type 0 where
+  pub behind_toc : 1 ≤ cut.first
+  pub within : cut.first + sum cut.lengths ≤ length cut.packet
+  pub some : 1 ≤ length cut.lengths
+  pub few : length cut.lengths ≤ 48
+  pub limited : All (λ n. n ≤ 1275) cut.lengths
+  pub short : samples_of cut ≤ 5760
 
 -- NUMBERS IN OCTETS, with how many octets say so.
 

@@ -1,7 +1,7 @@
 //! The frames of an Opus packet (RFC 6716, section 3).
-ghost use Rattle.std.specs.Prelude.{◌≡◌, ◌+◌, ◌*◌, ◌≤◌, ◌<◌, ◌↔◌, IsTrue, Some, length, slice_get, slice_index, slice_range, sum};
+ghost use Rattle.std.specs.Prelude.{◌≡◌, ◌+◌, ◌*◌, ◌≤◌, ◌<◌, Some, length, slice_get, slice_index, slice_range,};
 ghost use Rattle.opus_packets.specs.Cut.{start_of, end_of, frames_of};
-ghost use Rattle.opus_packets.specs.Packet.{config_of, is_stereo, duration_of};
+ghost use Rattle.opus_packets.specs.Packet.{config_of, is_stereo, duration_of, samples_of, IsCut};
 
 use arrayvec::ArrayVec;
 use std::marker::Model;
@@ -19,21 +19,20 @@ pub struct Frames<'a> {
 }
 
 impl<'a> Model for Frames<'a> {
-    ghost use Rattle.opus_packets.specs.Cut.{Cut, IsWithin};
+    ghost use Rattle.opus_packets.specs.Cut.{Cut};
+    ghost use Rattle.opus_packets.specs.Packet.{IsCut};
 
     ghost Value = { Cut };
 
     ghost view = { λ f. record { packet = f.packet.now; first = f.first; lengths = f.lengths.items } };
 
-    ghost invariant = { λ f. IsWithin (record { packet = f.packet.now; first = f.first; lengths = f.lengths.items }) };
+    ghost invariant = { λ f. IsCut (record { packet = f.packet.now; first = f.first; lengths = f.lengths.items }) };
 }
 
 impl<'a> Frames<'a> {
     /// The frames of these lengths that follow one another from the place `first` on.
     pub(crate) fn new(packet: &'a [u8], first: usize, lengths: ArrayVec<u16, MOST_FRAMES>) -> Self
-        requires behind_toc { 1 ≤ first }
-        requires within { first + sum lengths.items ≤ length packet.now }
-        requires few { length lengths.items ≤ 48 }
+        requires { IsCut (record { packet = packet.now; first = first; lengths = lengths.items }) }
         ensures { result ≡ record { packet = packet.now; first = first; lengths = lengths.items } }
     {
         Frames {
@@ -57,24 +56,30 @@ impl<'a> Frames<'a> {
         self.packet[0] / 4 % 2 == 1
     }
 
-    /// The samples per channel at 48 kHz of all the frames.
+    /// The samples per channel at 48 kHz of all the frames, at most 5760.
     pub fn samples(&self) -> u32
-        ensures { result ≡ length self.now.lengths * duration_of (config_of (slice_index self.now.packet 0)) }
+        ensures value { result ≡ samples_of self.now }
+        ensures bound { result ≤ 5760 }
     {
         self.lengths.len() as u32 * duration(self.config())
     }
 
-    /// The number of frames.
+    /// The number of frames, 1 to 48.
     pub fn len(&self) -> usize
-        ensures { result ≡ length self.now.lengths }
+        ensures value { result ≡ length self.now.lengths }
+        ensures some { 1 ≤ result }
+        ensures few { result ≤ 48 }
     {
         self.lengths.len()
     }
 
-    /// The bytes of frame `i`. One of 0 or 1 bytes stands for a frame that was lost or not sent.
+    /// The bytes of frame `i`, at most 1275. One of 0 or 1 bytes stands for a frame that was lost or not
+    /// sent.
     pub fn frame(&self, i: usize) -> &'a [u8]
         requires { i < length self.now.lengths }
         ensures place { result.now ≡ slice_range self.now.packet (start_of self.now i) (end_of self.now i) }
+        ensures within { end_of self.now i ≤ length self.now.packet }
+        ensures limit { length result.now ≤ 1275 }
         ensures item { slice_get (frames_of self.now) i ≡ Some result.now }
     {
         let start = self.start(i);

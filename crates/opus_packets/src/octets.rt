@@ -1,5 +1,5 @@
 //! Lengths and padding as the octets of a packet say them (RFC 6716, section 3.2).
-ghost use Rattle.std.specs.Prelude.{◌≡◌, ◌+◌, ◌*◌, ◌≤◌, ◌<◌, [], ◌∷◌, ◌++◌, IfSome, length, sum};
+ghost use Rattle.std.specs.Prelude.{◌≡◌, ◌+◌, ◌*◌, ◌≤◌, ◌<◌, [], ◌∷◌, ◌++◌, All, IfSome, length, sum};
 ghost use Rattle.opus_packets.specs.Packet.{length_at, lengths_at, padding_of, fitting, padding_at};
 
 use crate::frames::MOST_FRAMES;
@@ -123,6 +123,7 @@ pub(crate) fn lengths_at(n: usize, bytes: &[u8]) -> Option<Lengths>
     ensures value { result ≡ lengths_at n bytes.now }
     ensures count { IfSome result (λ l. length l.values ≡ n) }
     ensures short { IfSome result (λ l. l.taken ≤ 2 * n) }
+    ensures limited { IfSome result (λ l. All (λ v. v ≤ 1275) l.values) }
 {
     let mut values = ArrayVec::new();
     let mut taken = 0;

@@ -1,7 +1,7 @@
 //! Cutting an Opus packet into its frames (RFC 6716, section 3).
-ghost use Rattle.std.specs.Prelude.{◌≡◌, ◌+◌, ◌*◌, ◌≤◌, ◌<◌, length, drop, replicate};
+ghost use Rattle.std.specs.Prelude.{◌≡◌, ◌+◌, ◌*◌, ◌≤◌, ◌<◌, length, drop, replicate, slice_index};
 ghost use Rattle.std.specs.Option.{ForSome};
-ghost use Rattle.opus_packets.specs.Packet.{one_frame, two_equal_frames, two_frames, length_at, equal_frames, frames_with_lengths, many_frames, cut_of};
+ghost use Rattle.opus_packets.specs.Packet.{one_frame, two_equal_frames, two_frames, length_at, equal_frames, frames_with_lengths, many_frames, cut_of, config_of, duration_of};
 
 use crate::fault::PacketFault;
 use crate::frames::{Frames, MOST_FRAMES, duration};
@@ -120,7 +120,7 @@ fn many_frames(packet: &[u8]) -> Result<Frames<'_>, PacketFault>
 #[tactic(auto, unfolding(crate::specs::Packet::equal_frames))]
 fn equal_frames(count: usize, packet: &[u8], padding: Option<Coded>) -> Result<Frames<'_>, PacketFault>
     requires some { 1 ≤ count }
-    requires few { count ≤ 48 }
+    requires short { count * duration_of (config_of (slice_index packet.now 0)) ≤ 5760 }
     requires long { 2 ≤ length packet.now }
     requires padded { ForSome padding (λ p. 2 + p.taken + p.value ≤ length packet.now) }
     ensures { result ≡ equal_frames count packet.now padding }
@@ -155,7 +155,7 @@ fn copies(length: u16, count: usize) -> ArrayVec<u16, MOST_FRAMES>
 #[tactic(auto, unfolding(crate::specs::Packet::frames_with_lengths, crate::specs::Packet::given_frames))]
 fn frames_with_lengths(count: usize, packet: &[u8], padding: Option<Coded>) -> Result<Frames<'_>, PacketFault>
     requires some { 1 ≤ count }
-    requires few { count ≤ 48 }
+    requires short { count * duration_of (config_of (slice_index packet.now 0)) ≤ 5760 }
     requires long { 2 ≤ length packet.now }
     requires padded { ForSome padding (λ p. 2 + p.taken + p.value ≤ length packet.now) }
     ensures { result ≡ frames_with_lengths count packet.now padding }
