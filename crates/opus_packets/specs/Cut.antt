@@ -1,5 +1,5 @@
 -- Where the frames of a packet stand.
-use Rattle.std.specs.Prelude.{◌≡◌, ℕ, ◌+◌, ◌*◌, ◌≤◌, List, [], ◌∷◌, length, take, drop, sum, slice_index, slice_range}
+use Rattle.std.specs.Prelude.{ℕ, ◌+◌, ◌/◌, List, [], ◌∷◌, length, take, drop, replicate, sum, slice_index, slice_range}
 
 -- The frames follow one another in the packet from the place `first` on. What stands before the first
 -- frame are the octets that say how long they are, and what stands behind the last one is padding.
@@ -24,6 +24,10 @@ frame_at cut i = slice_range cut.packet (start_of cut i) (end_of cut i)
 abbrev pub parts : List ℕ → List ℕ → List (List ℕ)
 parts [] bytes = []
 parts (n ∷ ns) bytes = take n bytes ∷ parts ns (drop n bytes)
+
+-- so many parts of one length
+abbrev pub equal_parts : ℕ → List ℕ → List (List ℕ)
+equal_parts count bytes = parts (replicate count (length bytes / count)) bytes
 
 -- the frames
 abbrev pub frames_of : Cut → List (List ℕ)

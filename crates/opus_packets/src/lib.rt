@@ -8,8 +8,10 @@ mod frames;
 mod header;
 mod octets;
 mod packet;
+mod spelling;
 
 pub use fault::PacketFault;
 pub use header::{Head, HeadFault, read_head, write_head, write_tags};
 pub use frames::Frames;
 pub use packet::split;
+pub use spelling::{pack, pack_group};
