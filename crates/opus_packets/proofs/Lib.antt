@@ -4,5 +4,6 @@ pub mod FormsRead
 pub mod Groups
 pub mod Headers
 pub mod Parts
+pub mod Spellings
 pub mod Tests
 pub mod Written
