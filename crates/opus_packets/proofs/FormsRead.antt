@@ -27,10 +27,10 @@ behind (TwoEqual f g) = []
 behind (Two f g) = []
 behind (Many given padding fs) = padding_bytes padding
 
-drop_cons : (n a : ℕ) (xs : List ℕ) → drop (1 + n) (a ∷ xs) ≡ drop n xs
+pub drop_cons : (n a : ℕ) (xs : List ℕ) → drop (1 + n) (a ∷ xs) ≡ drop n xs
 drop_cons n a xs = sym (drop-drop n 1 (a ∷ xs))
 
-drop_two : (n a b : ℕ) (xs : List ℕ) → drop (2 + n) (a ∷ b ∷ xs) ≡ drop n xs
+pub drop_two : (n a b : ℕ) (xs : List ℕ) → drop (2 + n) (a ∷ b ∷ xs) ≡ drop n xs
 drop_two n a b xs = sym (drop-drop n 2 (a ∷ b ∷ xs))
 
 drop_two_parts : (a b : ℕ) (xs ys zs : List ℕ) (n : ℕ) → length xs ≡ n → drop (2 + n + length ys) (a ∷ b ∷ (xs ++ ys ++ zs)) ≡ zs
@@ -93,7 +93,7 @@ last_of fs some =
     let e : length fs - 1 + 1 ≡ length fs = omega arith in
     sym (take_all (length fs) fs (omega arith)) ∙ ap (λ n. take n fs) (sym e) ∙ take_more fs (length fs - 1) [] less
 
-octets_by_lengths : (fs : List (List ℕ)) → flat_map (λ f. length_octets (length f)) fs ≡ flat_map length_octets (map length fs)
+pub octets_by_lengths : (fs : List (List ℕ)) → flat_map (λ f. length_octets (length f)) fs ≡ flat_map length_octets (map length fs)
 octets_by_lengths [] = refl
 octets_by_lengths (f ∷ fs) = ap (λ xs. length_octets (length f) ++ xs) (octets_by_lengths fs)
 

@@ -17,7 +17,7 @@ one_written toc f out n code short size =
     rw front (frames_written toc (One f) (record { code = code; limited = All-cons (λ (g : List ℕ). length g ≤ 1275) f [] short (All-nil (λ (g : List ℕ). length g ≤ 1275)); of_code = tt }))
 
 -- what holds of the lengths of lists holds of the lists
-all_by_lengths : (fs : List (List ℕ)) → All (λ n. n ≤ 1275) (map length fs) → All (λ f. length f ≤ 1275) fs
+pub all_by_lengths : (fs : List (List ℕ)) → All (λ n. n ≤ 1275) (map length fs) → All (λ f. length f ≤ 1275) fs
 all_by_lengths [] all = All-nil (λ (f : List ℕ). length f ≤ 1275)
 all_by_lengths (f ∷ fs) all = All-cons (λ (g : List ℕ). length g ≤ 1275) f fs (All-head (λ n. n ≤ 1275) (length f) (map length fs) all) (all_by_lengths fs (All-tail (λ n. n ≤ 1275) (length f) (map length fs) all))
 

@@ -1,5 +1,6 @@
 pub mod Codings
 pub mod Cuts
+pub mod FormsFound
 pub mod FormsRead
 pub mod Groups
 pub mod Headers
