@@ -1,8 +1,9 @@
 -- Lemmas on the places of frames.
-use Rattle.std.proofs.Common.{◌≡◌, ℕ, zero, suc, ◌+◌, ◌-◌, ◌<◌, List, [], ◌∷◌, length, take, drop, sum, slice_get, slice_index, Some, refl, ap, arith, ◌∙◌, sym}
+use Rattle.std.proofs.Common.{◌≡◌, ℕ, zero, suc, ◌+◌, ◌-◌, ◌<◌, ◌≤◌, List, [], ◌∷◌, length, take, drop, sum, slice_get, slice_index, Some, refl, ap, arith, ◌∙◌, sym}
 use Rattle.std.proofs.lemmas.List.{drop-drop}
-use Rattle.std.proofs.lemmas.List.Sums.{sum_by-cons}
-use Rattle.opus_packets.specs.Cut.{parts}
+use Rattle.std.proofs.lemmas.List.Sums.{sum_by-cons, sum_by_more, sum_by_more_le}
+use Rattle.opus_packets.specs.Cut.{Cut, start_of, end_of, parts}
+use Rattle.opus_packets.specs.Packet.{IsCut}
 
 -- a sum begins with its first item
 pub sum_cons : (n : ℕ) (ns : List ℕ) → sum (n ∷ ns) ≡ n + sum ns
@@ -21,3 +22,11 @@ pub parts_from : (ns : List ℕ) (packet : List ℕ) (first i start size : ℕ) 
 parts_from ns packet first i start size within es en =
     let e : start + size - start ≡ slice_index ns i = omega arith in
     rw (e, es) (parts_at ns (drop first packet) i within ∙ ap (λ xs. Some (take (slice_index ns i) xs)) (drop-drop (sum (take i ns)) first packet))
+
+-- a frame ends where the next one begins
+pub end_is_start : (cut : Cut) (i : ℕ) → i < length cut.lengths → end_of cut i ≡ start_of cut (i + 1)
+end_is_start cut i less = omega (arith, sum_by_more (λ n. n) cut.lengths i 0 less)
+
+-- and all of them within the packet
+pub end_within : (cut : Cut) (i : ℕ) → IsCut cut → i < length cut.lengths → end_of cut i ≤ length cut.packet
+end_within cut i is less = omega (arith, is.within, sum_by_more_le (λ n. n) cut.lengths i 0 less)

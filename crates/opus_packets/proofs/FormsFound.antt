@@ -9,12 +9,12 @@ use Rattle.std.proofs.lemmas.Bool.Decides.{nat_tests}
 use Rattle.opus_packets.specs.declared.octets.Coded.{Coded}
 use Rattle.opus_packets.specs.Cut.{Cut, parts, frames_of}
 use Rattle.opus_packets.specs.Packet.{cut_of, one_frame, two_equal_frames, two_frames, many_frames, equal_frames, given_frames, frames_with_lengths, length_at, padding_at, padding_of, fitting, lengths_at, Lengths, config_of, duration_of, is_padded, has_lengths}
-use Rattle.opus_packets.specs.Form.{Form, One, TwoEqual, Two, Many, Padding, IsPadding, AreEqualUnless, IsMany, IsSound, IsSpelled, spelled, frames_in, length_octets, lengths_octets, padding_octets, padding_bytes, count_octet}
+use Rattle.opus_packets.specs.Form.{AreBytes, Form, One, TwoEqual, Two, Many, Padding, IsPadding, AreEqualUnless, IsMany, IsSound, IsSpelled, spelled, frames_in, length_octets, lengths_octets, padding_octets, padding_bytes, count_octet}
 use Rattle.opus_packets.proofs.Parts.{lengths_of_parts, concat_parts, sum_replicate}
 use Rattle.opus_packets.proofs.Groups.{all_by_lengths}
 use Rattle.opus_packets.proofs.Tests.{cut_by_0, cut_by_1, cut_by_2, cut_by_3}
 use Rattle.opus_packets.proofs.FormsRead.{drop_cons, drop_two, octets_by_lengths}
-use Rattle.opus_packets.proofs.Spellings.{AreBytes, bytes_drop, IsLength, length_said, IsSaid, padding_said, AreLengths, lengths_said}
+use Rattle.opus_packets.proofs.Spellings.{bytes_drop, IsLength, length_said, IsSaid, padding_said, AreLengths, lengths_said}
 
 -- each list has at most 1275 bytes
 abbrev pub AreShort : List (List ℕ) → Type 0

@@ -5,11 +5,7 @@ use Rattle.std.proofs.lemmas.List.Elements.{All-cons, All-nil}
 use Rattle.std.proofs.lemmas.Bool.Decides.{nat_tests}
 use Rattle.opus_packets.specs.declared.octets.Coded.{Coded}
 use Rattle.opus_packets.specs.Packet.{length_at, padding_at, padding_of, fitting, lengths_at, with_254_more, with_first, Lengths}
-use Rattle.opus_packets.specs.Form.{length_octets, padding_octets, padding_bytes, Padding, IsPadding}
-
--- each item is a byte
-abbrev pub AreBytes : List ℕ → Type 0
-AreBytes xs = (i : ℕ) → slice_index xs i < 256
+use Rattle.opus_packets.specs.Form.{AreBytes, length_octets, padding_octets, padding_bytes, Padding, IsPadding}
 
 pub bytes_drop : (n : ℕ) (xs : List ℕ) → AreBytes xs → AreBytes (drop n xs)
 bytes_drop n xs bytes i = rw (get_or-drop n xs i 0) (bytes (n + i))

@@ -1,5 +1,5 @@
 -- How an Opus packet is spelled: its first octet, its form and its frames (RFC 6716, section 3).
-use Rattle.std.specs.Prelude.{◌≡◌, ℕ, ◌+◌, ◌-◌, ◌*◌, ◌/◌, ◌%◌, ◌<◌, ◌≤◌, Bool, true, false, nat_lt, if◌then◌else◌, List, [], ◌∷◌, ◌++◌, All, map, flat_map, length, take, replicate, Option, Some, None, is_some, ⊤}
+use Rattle.std.specs.Prelude.{◌≡◌, ℕ, ◌+◌, ◌-◌, ◌*◌, ◌/◌, ◌%◌, ◌<◌, ◌≤◌, Bool, true, false, nat_lt, if◌then◌else◌, List, [], ◌∷◌, ◌++◌, All, map, flat_map, length, take, replicate, slice_index, Option, Some, None, is_some, ⊤}
 use Rattle.std.specs.List.{concat}
 use Rattle.opus_packets.specs.Packet.{config_of, duration_of}
 
@@ -81,6 +81,10 @@ pub record IsSound (toc : ℕ) (form : Form) : Type 0 where
   pub code : toc % 4 ≡ 0
   pub limited : All (λ f. length f ≤ 1275) (frames_in form)
   pub of_code : IsOfCode toc form
+
+-- each item is a byte
+abbrev pub AreBytes : List ℕ → Type 0
+AreBytes bytes = (i : ℕ) → slice_index bytes i < 256
 
 -- the packet is that of a sound form with these frames
 pub record IsSpelled (packet : List ℕ) (frames : List (List ℕ)) : Type 0 where

@@ -6,6 +6,7 @@
 mod fault;
 mod frames;
 mod header;
+mod laws;
 mod octets;
 mod packet;
 mod spelling;
@@ -13,5 +14,8 @@ mod spelling;
 pub use fault::PacketFault;
 pub use header::{Head, HeadFault, read_head, write_head, write_tags};
 pub use frames::Frames;
+pub use laws::{
+    law_cut_packets_are_spelled, law_frames_follow_one_another, law_spelled_packets_are_cut,
+};
 pub use packet::split;
 pub use spelling::{pack, pack_group};
