@@ -132,12 +132,12 @@ padded_more bytes t v w p less e is fits =
 pub padded_long : (bytes : List ℕ) (t v w : ℕ) → Padded bytes t v → t < length bytes → slice_index bytes t < 256 → w ≡ v + min (slice_index bytes t) 254 → length bytes < t + 1 + w → fitting (length bytes) (padding_at bytes) ≡ None
 padded_long bytes t v w p less byte is long =
     elim (cases_eq (slice_index bytes t) 255) [
-      inl e ↦
-        let more : length bytes < t + 1 + (v + 254) = omega arith in
-        rw (step_255 bytes t v p less e) (after_not_fitting (length bytes) (v + 254) (t + 1) (padding_at (drop (t + 1) bytes)) more)
-    | inr other ↦
-        let test : nat_lt (length bytes) (t + 1 + (v + slice_index bytes t)) ≡ true = grind (arith, nat_tests) in
-        rw (step_last bytes t v p less other, test) refl
+      | inl e ↦
+          let more : length bytes < t + 1 + (v + 254) = omega arith in
+          rw (step_255 bytes t v p less e) (after_not_fitting (length bytes) (v + 254) (t + 1) (padding_at (drop (t + 1) bytes)) more)
+      | inr other ↦
+          let test : nat_lt (length bytes) (t + 1 + (v + slice_index bytes t)) ≡ true = grind (arith, nat_tests) in
+          rw (step_last bytes t v p less other, test) refl
     ]
 
 pub padded_last : (bytes : List ℕ) (t v w : ℕ) → Padded bytes t v → t < length bytes → slice_index bytes t < 255 → w ≡ v + min (slice_index bytes t) 254 → t + 1 + w ≤ length bytes → fitting (length bytes) (padding_at bytes) ≡ Some (record { value = w; taken = t + 1 })

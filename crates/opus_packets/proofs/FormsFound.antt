@@ -12,7 +12,7 @@ use Rattle.opus_packets.specs.Packet.{cut_of, one_frame, two_equal_frames, two_f
 use Rattle.opus_packets.specs.Form.{AreBytes, Form, One, TwoEqual, Two, Many, Padding, IsPadding, AreEqualUnless, IsMany, IsSound, IsSpelled, spelled, frames_in, length_octets, lengths_octets, padding_octets, padding_bytes, count_octet}
 use Rattle.opus_packets.proofs.Parts.{lengths_of_parts, concat_parts, sum_replicate}
 use Rattle.opus_packets.proofs.Groups.{all_by_lengths}
-use Rattle.opus_packets.proofs.Tests.{cut_by_0, cut_by_1, cut_by_2, cut_by_3}
+use Rattle.opus_packets.proofs.Sums.{cut_by_0, cut_by_1, cut_by_2, cut_by_3}
 use Rattle.opus_packets.proofs.FormsRead.{drop_cons, drop_two, octets_by_lengths}
 use Rattle.opus_packets.proofs.Spellings.{bytes_drop, IsLength, length_said, IsSaid, padding_said, AreLengths, lengths_said}
 
@@ -173,11 +173,11 @@ packet_spelled toc octet body ls ns g p first code byte given found count some s
     let second : count_octet g h.padding (length fs) ≡ octet = ap (λ n. count_octet g h.padding n) items ∙ octet_found octet g h.padding byte given h.some in
     let frames : concat fs ++ padding_bytes h.padding ≡ tail = ap (λ xs. xs ++ padding_bytes h.padding) (concat_parts ns tail enough) ∙ ap (λ xs. take (sum ns) tail ++ xs) h.bytes ∙ take-append-drop (sum ns) tail in
     let all : padding_octets h.padding ++ (if g then lengths_octets fs else []) ++ concat fs ++ padding_bytes h.padding ≡ body =
-        append_assoc (padding_octets h.padding ++ (if g then lengths_octets fs else [])) (concat fs) (padding_bytes h.padding)
-        ∙ append_assoc (padding_octets h.padding) (if g then lengths_octets fs else []) (concat fs ++ padding_bytes h.padding)
-        ∙ ap (λ xs. padding_octets h.padding ++ ((if g then lengths_octets fs else []) ++ xs)) frames
-        ∙ ap (λ xs. padding_octets h.padding ++ (xs ++ tail)) (said fs lengths)
-        ∙ ap (λ xs. padding_octets h.padding ++ xs) (sym rest) ∙ sym h.octets in
+    append_assoc (padding_octets h.padding ++ (if g then lengths_octets fs else [])) (concat fs) (padding_bytes h.padding)
+    ∙ append_assoc (padding_octets h.padding) (if g then lengths_octets fs else []) (concat fs ++ padding_bytes h.padding)
+    ∙ ap (λ xs. padding_octets h.padding ++ ((if g then lengths_octets fs else []) ++ xs)) frames
+    ∙ ap (λ xs. padding_octets h.padding ++ (xs ++ tail)) (said fs lengths)
+    ∙ ap (λ xs. padding_octets h.padding ++ xs) (sym rest) ∙ sym h.octets in
     record {
       toc = toc - 3;
       form = Many g h.padding fs;
@@ -214,8 +214,8 @@ equal_spelled toc octet body p code byte given found some short true false t u =
     let tail : drop (2 + p.taken) (toc ∷ octet ∷ body) ≡ drop p.taken body = drop_two p.taken toc octet body in
     let size : length (drop (2 + p.taken) (toc ∷ octet ∷ body)) ≡ sum (replicate count n) + p.value = ap length tail ∙ length-drop p.taken body ∙ omega (arith, found.fits) in
     rw (t, u) (packet_spelled toc octet body [] (replicate count n) false p (2 + p.taken) code byte given found (length-replicate count n) some short
-        (All-replicate (λ m. m ≤ 1275) count n less) (sym tail) size (λ fs lengths. refl)
-        (λ fs lengths. (n, lengths ∙ ap (λ k. replicate k n) (sym (sym (length-map fs length) ∙ ap length lengths ∙ length-replicate count n)))))
+    (All-replicate (λ m. m ≤ 1275) count n less) (sym tail) size (λ fs lengths. refl)
+    (λ fs lengths. (n, lengths ∙ ap (λ k. replicate k n) (sym (sym (length-map fs length) ∙ ap length lengths ∙ length-replicate count n)))))
 
 given_spelled : (toc octet : ℕ) (body : List ℕ) (p : Coded) (l : Lengths) → toc % 4 ≡ 3 → octet < 256 → has_lengths octet ≡ true → IsFound (is_padded octet) body p
     → 1 ≤ octet % 64 → octet % 64 * duration_of (config_of toc) ≤ 5760 → AreLengths (octet % 64 - 1) (drop p.taken body) l
@@ -234,16 +234,16 @@ given_spelled toc octet body p l code byte given found some short are false fals
     let count : length ns ≡ octet % 64 = length_push l.values last ∙ omega (arith, are.count) in
     let first : 2 + p.taken + l.taken ≡ 2 + (p.taken + l.taken) = omega arith in
     let tail : drop (2 + p.taken + l.taken) (toc ∷ octet ∷ body) ≡ drop l.taken (drop p.taken body) =
-        ap (λ k. drop k (toc ∷ octet ∷ body)) first ∙ drop_two (p.taken + l.taken) toc octet body ∙ sym (drop-drop l.taken p.taken body) in
+    ap (λ k. drop k (toc ∷ octet ∷ body)) first ∙ drop_two (p.taken + l.taken) toc octet body ∙ sym (drop-drop l.taken p.taken body) in
     let size : length (drop (2 + p.taken + l.taken) (toc ∷ octet ∷ body)) ≡ sum ns + p.value =
-        ap length tail ∙ length-drop l.taken (drop p.taken body) ∙ omega (arith, length-drop p.taken body, all) in
+    ap length tail ∙ length-drop l.taken (drop p.taken body) ∙ omega (arith, length-drop p.taken body, all) in
     let said : (fs : List (List ℕ)) → map length fs ≡ ns → lengths_octets fs ≡ flat_map length_octets l.values =
-        λ fs lengths.
-          let items : length fs ≡ length l.values + 1 = sym (length-map fs length) ∙ ap length lengths ∙ length_push l.values last in
-          let front : take (length fs - 1) ns ≡ l.values = take_at l.values (last ∷ []) (length fs - 1) (omega arith) in
-          octets_by_lengths (take (length fs - 1) fs) ∙ ap (λ ms. flat_map length_octets ms) (sym (take-map length (length fs - 1) fs) ∙ ap (λ ms. take (length fs - 1) ms) lengths ∙ front) in
+    λ fs lengths.
+    let items : length fs ≡ length l.values + 1 = sym (length-map fs length) ∙ ap length lengths ∙ length_push l.values last in
+    let front : take (length fs - 1) ns ≡ l.values = take_at l.values (last ∷ []) (length fs - 1) (omega arith) in
+    octets_by_lengths (take (length fs - 1) fs) ∙ ap (λ ms. flat_map length_octets ms) (sym (take-map length (length fs - 1) fs) ∙ ap (λ ms. take (length fs - 1) ms) lengths ∙ front) in
     rw (t, u) (packet_spelled toc octet body (flat_map length_octets l.values) ns true p (2 + p.taken + l.taken) code byte given found count some short
-        (All-push (λ m. m ≤ 1275) l.values last are.limited less) (are.octets ∙ ap (λ xs. flat_map length_octets l.values ++ xs) (sym tail)) size said (λ fs lengths. tt))
+    (All-push (λ m. m ≤ 1275) l.values last are.limited less) (are.octets ∙ ap (λ xs. flat_map length_octets l.values ++ xs) (sym tail)) size said (λ fs lengths. tt))
 
 equal_spelled_by : (toc octet : ℕ) (body : List ℕ) → toc % 4 ≡ 3 → octet < 256 → has_lengths octet ≡ false → 1 ≤ octet % 64 → octet % 64 * duration_of (config_of toc) ≤ 5760
     → (o : Option Coded) → IfSome o (λ p. IsFound (is_padded octet) body p) → IfOk (equal_frames (octet % 64) (toc ∷ octet ∷ body) o) (λ cut. IsSpelled (toc ∷ octet ∷ body) (frames_of cut))

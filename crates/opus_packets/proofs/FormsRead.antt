@@ -10,7 +10,7 @@ use Rattle.opus_packets.specs.Cut.{Cut, frames_of, parts}
 use Rattle.opus_packets.specs.Packet.{cut_of, config_of, duration_of, is_padded, has_lengths, length_at, padding_of, lengths_at, Lengths}
 use Rattle.opus_packets.specs.Form.{Form, One, TwoEqual, Two, Many, frames_in, spelled, Padding, IsPadding, IsMany, IsSound, length_octets, lengths_octets, padding_octets, padding_bytes, count_octet}
 use Rattle.opus_packets.proofs.Parts.{parts_of, length_concat, sum_replicate}
-use Rattle.opus_packets.proofs.Tests.{cut_at, cut_by_0, cut_by_1, cut_by_2, one_sound, two_equal_sound, two_sound, few_frames}
+use Rattle.opus_packets.proofs.Sums.{cut_at, cut_by_0, cut_by_1, cut_by_2, one_sound, two_equal_sound, two_sound, few_frames}
 use Rattle.opus_packets.proofs.Written.{coded, said, said_taken, said_value, length_written, lengths_written, padding_read, many_equal, many_given, octet_count, octet_padded, octet_given}
 
 -- where the first frame of a form stands
@@ -77,13 +77,13 @@ written_equal toc padding fs sound =
     let short : length fs * duration_of (config_of (toc + 3)) ≤ 5760 = rw config is.short in
     let all : length (concat fs) ≡ length fs * n = length_concat fs ∙ ap sum is.equal.1 ∙ sum_replicate (length fs) n in
     let size : length packet ≡ 2 + (said padding).taken + (said padding).value + length fs * n =
-        omega (arith, size_of_many (toc + 3) (count_octet false padding (length fs)) (padding_octets padding) [] (concat fs) (padding_bytes padding), said_taken padding, said_value padding is.padded) in
+    omega (arith, size_of_many (toc + 3) (count_octet false padding (length fs)) (padding_octets padding) [] (concat fs) (padding_bytes padding), said_taken padding, said_value padding is.padded) in
     let body : drop 2 packet ≡ padding_octets padding ++ (concat fs ++ padding_bytes padding) = append_assoc (padding_octets padding ++ []) (concat fs) (padding_bytes padding) ∙ ap (λ xs. xs ++ (concat fs ++ padding_bytes padding)) (append-nil (padding_octets padding)) in
     let enough : (said padding).value ≤ length (concat fs ++ padding_bytes padding) = omega (arith, said_value padding is.padded, length-append (concat fs) (padding_bytes padding)) in
     let read : padding_of (is_some padding) (drop 2 packet) ≡ Some (said padding) = rw body (padding_read padding (concat fs ++ padding_bytes padding) is.padded enough) in
     let first : 2 + (said padding).taken ≡ first_in (Many false padding fs) = omega arith in
     many_equal packet (is_some padding) (length fs) n (said padding).taken (said padding).value code (octet_count false padding (length fs) few)
-        (octet_padded false padding (length fs) few) (octet_given false padding (length fs) few) is.some short read size (equal_short fs n is.some is.equal.1 sound.limited)
+    (octet_padded false padding (length fs) few) (octet_given false padding (length fs) few) is.some short read size (equal_short fs n is.some is.equal.1 sound.limited)
     ∙ ap (λ ns. cut_at packet (2 + (said padding).taken) ns) (sym is.equal.1) ∙ ap (λ k. cut_at packet k (map length fs)) first
 
 -- a row ends with its last item
@@ -121,17 +121,17 @@ written_given toc padding fs sound =
     let octets : ls ≡ flat_map length_octets ns = octets_by_lengths front in
     let limited : length g ≤ 1275 = sound.limited (length fs - 1) [] (omega arith) in
     let size : length packet ≡ 2 + (said padding).taken + (said padding).value + length ls + sum ns + length g =
-        omega (arith, size_of_many (toc + 3) (count_octet true padding (length fs)) (padding_octets padding) ls (concat fs) (padding_bytes padding), said_taken padding, said_value padding is.padded) in
+    omega (arith, size_of_many (toc + 3) (count_octet true padding (length fs)) (padding_octets padding) ls (concat fs) (padding_bytes padding), said_taken padding, said_value padding is.padded) in
     let body : drop 2 packet ≡ padding_octets padding ++ (ls ++ behind_octets) = append_assoc (padding_octets padding ++ ls) (concat fs) (padding_bytes padding) ∙ append_assoc (padding_octets padding) ls behind_octets in
     let enough : (said padding).value ≤ length (ls ++ behind_octets) = omega (arith, said_value padding is.padded, length-append (concat fs) (padding_bytes padding), length-append ls behind_octets) in
     let read : padding_of (is_some padding) (drop 2 packet) ≡ Some (said padding) = rw body (padding_read padding (ls ++ behind_octets) is.padded enough) in
     let rest : drop (2 + (said padding).taken) packet ≡ flat_map length_octets ns ++ behind_octets =
-        sym (drop-drop (said padding).taken 2 packet) ∙ ap (λ xs. drop (said padding).taken xs) body
-        ∙ drop_at (padding_octets padding) (ls ++ behind_octets) (said padding).taken (said_taken padding) ∙ ap (λ xs. xs ++ behind_octets) octets in
+    sym (drop-drop (said padding).taken 2 packet) ∙ ap (λ xs. drop (said padding).taken xs) body
+    ∙ drop_at (padding_octets padding) (ls ++ behind_octets) (said padding).taken (said_taken padding) ∙ ap (λ xs. xs ++ behind_octets) octets in
     let lengths : lengths_at (length fs - 1) (drop (2 + (said padding).taken) packet) ≡ Some (record { values = ns; taken = length ls }) =
-        lengths_read ns ls behind_octets _ _ count octets rest in
+    lengths_read ns ls behind_octets _ _ count octets rest in
     many_given packet (is_some padding) (length fs) (length g) (said padding).taken (said padding).value (record { values = ns; taken = length ls }) code (octet_count true padding (length fs) few)
-        (octet_padded true padding (length fs) few) (octet_given true padding (length fs) few) some short read lengths size limited
+    (octet_padded true padding (length fs) few) (octet_given true padding (length fs) few) some short read lengths size limited
     ∙ ap (λ ms. cut_at packet (2 + (said padding).taken + length ls) ms) (sym split)
 
 -- THE CUT OF WHAT IS SPELLED
@@ -160,5 +160,5 @@ cut_written toc (Many false padding fs) sound = written_equal toc padding fs sou
 pub frames_written : (toc : ℕ) (form : Form) → IsSound toc form → IsOkAnd (cut_of (spelled toc form)) (λ cut. frames_of cut ≡ frames_in form)
 frames_written toc form sound =
     let same : parts (map length (frames_in form)) (drop (first_in form) (spelled toc form)) ≡ frames_in form =
-        ap (λ xs. parts (map length (frames_in form)) xs) (drop_first toc form) ∙ parts_of (frames_in form) (behind form) in
+    ap (λ xs. parts (map length (frames_in form)) xs) (drop_first toc form) ∙ parts_of (frames_in form) (behind form) in
     subst (λ (r : Result Cut PacketFault). IsOkAnd r (λ cut. frames_of cut ≡ frames_in form)) (sym (cut_written toc form sound)) same

@@ -6,5 +6,5 @@ pub mod Groups
 pub mod Headers
 pub mod Parts
 pub mod Spellings
-pub mod Tests
+pub mod Sums
 pub mod Written

@@ -7,7 +7,7 @@ use Rattle.opus_packets.specs.declared.octets.Coded.{Coded}
 use Rattle.opus_packets.specs.Packet.{cut_of, config_of, duration_of, is_padded, has_lengths, frames_with_lengths, length_at, padding_at, padding_of, fitting, lengths_at, with_254_more, with_first, Lengths}
 use Rattle.opus_packets.specs.Form.{count_octet, length_octets, padding_octets, padding_bytes, Padding, IsPadding}
 use Rattle.opus_packets.proofs.Parts.{parts_of, length_concat}
-use Rattle.opus_packets.proofs.Tests.{cut_at, cut_by_0, cut_by_1, cut_by_2, cut_by_3, one_sound, two_equal_sound, two_sound, equal_sound, given_sound, many_sound, few_frames}
+use Rattle.opus_packets.proofs.Sums.{cut_at, cut_by_0, cut_by_1, cut_by_2, cut_by_3, one_sound, two_equal_sound, two_sound, equal_sound, given_sound, many_sound, few_frames}
 
 -- a value and the octets that say it
 abbrev pub coded : ℕ → ℕ → Coded
@@ -43,9 +43,13 @@ pub lengths_written : (ns rest : List ℕ) → lengths_at (length ns) (flat_map 
 unfolding lengths_at
 lengths_written [] rest = refl
 lengths_written (n ∷ ns) rest =
-    rw (append_assoc (length_octets n) (flat_map length_octets ns) rest, length_written n (flat_map length_octets ns ++ rest),
-        drop_at (length_octets n) (flat_map length_octets ns ++ rest) (length (length_octets n)) refl,
-        lengths_written ns rest, length-append (length_octets n) (flat_map length_octets ns)) refl
+    rw (
+      append_assoc (length_octets n) (flat_map length_octets ns) rest,
+      length_written n (flat_map length_octets ns ++ rest),
+      drop_at (length_octets n) (flat_map length_octets ns ++ rest) (length (length_octets n)) refl,
+      lengths_written ns rest,
+      length-append (length_octets n) (flat_map length_octets ns),
+    ) refl
 
 -- what the octets of a padding say
 abbrev pub said : Option Padding → Coded

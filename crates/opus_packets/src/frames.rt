@@ -1,5 +1,5 @@
 //! The frames of an Opus packet (RFC 6716, section 3).
-ghost use Rattle.std.specs.Prelude.{◌≡◌, ◌+◌, ◌*◌, ◌≤◌, ◌<◌, Some, length, slice_get, slice_index, slice_range,};
+ghost use Rattle.std.specs.Prelude.{◌≡◌, ◌+◌, ◌*◌, ◌≤◌, ◌<◌, Some, length, slice_get, slice_index, slice_range};
 ghost use Rattle.opus_packets.specs.Cut.{start_of, end_of, frames_of};
 ghost use Rattle.opus_packets.specs.Packet.{config_of, is_stereo, duration_of, samples_of, IsCut};
 

@@ -10,20 +10,17 @@ ghost use Rattle.opus_packets.specs.Form.{Form, AreBytes, IsSound, IsSpelled, fr
 pub fn law_spelled_packets_are_cut()
     ensures { (toc : ℕ) (form : Form) → IsSound toc form
         → IsOkAnd (cut_of (spelled toc form)) (λ cut. frames_of cut ≡ frames_in form) }
-{
-}
+{}
 
 /// Every packet that is cut into frames is spelled by a form with just these frames (RFC 6716, section
 /// 3). So a packet is refused exactly where no form spells it.
 pub fn law_cut_packets_are_spelled()
     ensures { (packet : List ℕ) → AreBytes packet
         → IfOk (cut_of packet) (λ cut. IsSpelled packet (frames_of cut)) }
-{
-}
+{}
 
 /// Each frame of a packet begins where the one before it ends, and they all lie within the packet.
 pub fn law_frames_follow_one_another()
     ensures follow { (cut : Cut) (i : ℕ) → i < length cut.lengths → end_of cut i ≡ start_of cut (i + 1) }
     ensures within { (cut : Cut) (i : ℕ) → IsCut cut → i < length cut.lengths → end_of cut i ≤ length cut.packet }
-{
-}
+{}

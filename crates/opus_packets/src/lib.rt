@@ -12,10 +12,13 @@ mod packet;
 mod spelling;
 
 pub use fault::PacketFault;
-pub use header::{Head, HeadFault, read_head, write_head, write_tags};
 pub use frames::Frames;
+pub use header::{Head, HeadFault, read_head, write_head, write_tags};
 pub use laws::{
     law_cut_packets_are_spelled, law_frames_follow_one_another, law_spelled_packets_are_cut,
 };
 pub use packet::split;
 pub use spelling::{pack, pack_group};
+
+#[cfg(test)]
+mod tests;

@@ -118,7 +118,11 @@ fn many_frames(packet: &[u8]) -> Result<Frames<'_>, PacketFault>
 
 /// The frames of a code 3 packet that are all of one length.
 #[tactic(auto, unfolding(crate::specs::Packet::equal_frames))]
-fn equal_frames(count: usize, packet: &[u8], padding: Option<Coded>) -> Result<Frames<'_>, PacketFault>
+fn equal_frames(
+    count: usize,
+    packet: &[u8],
+    padding: Option<Coded>,
+) -> Result<Frames<'_>, PacketFault>
     requires some { 1 ≤ count }
     requires short { count * duration_of (config_of (slice_index packet.now 0)) ≤ 5760 }
     requires long { 2 ≤ length packet.now }
@@ -153,7 +157,11 @@ fn copies(length: u16, count: usize) -> ArrayVec<u16, MOST_FRAMES>
 
 /// The frames of a code 3 packet that says the lengths of all but the last.
 #[tactic(auto, unfolding(crate::specs::Packet::frames_with_lengths, crate::specs::Packet::given_frames))]
-fn frames_with_lengths(count: usize, packet: &[u8], padding: Option<Coded>) -> Result<Frames<'_>, PacketFault>
+fn frames_with_lengths(
+    count: usize,
+    packet: &[u8],
+    padding: Option<Coded>,
+) -> Result<Frames<'_>, PacketFault>
     requires some { 1 ≤ count }
     requires short { count * duration_of (config_of (slice_index packet.now 0)) ≤ 5760 }
     requires long { 2 ≤ length packet.now }

@@ -13,7 +13,7 @@ loop-preserved c =
     let some = sym (c.in_ok-length.ensures.value ∙ ap length_at c.split_at.ensures.back) in
     let fits = subst (λ (bs : List ℕ). c.in_ok-length.length.taken ≤ length bs) c.split_at.ensures.back c.in_ok-length.ensures.within in
     reading_more c.args.n c.loop.counter c.loop.taken c.args.bytes.now c.loop.values.items _ c.in_ok-length.length c.loop.invariant
-        c.loop-test.true some fits c.in_ok-length.ensures.short c.in_ok-length.ensures.bound c.push.ensures.items
+    c.loop-test.true some fits c.in_ok-length.ensures.short c.in_ok-length.ensures.bound c.push.ensures.items
 
 pub returns-clause-value : goal.returns-clause-value
 returns-clause-value c = sym (reading_end c.args.n c.loop.counter c.loop.taken c.args.bytes.now c.loop.values.items c.loop.invariant c.loop-test.false)

@@ -1,6 +1,6 @@
 use Rattle.std.proofs.Common.{◌≤◌, slice_index, arith}
 use Rattle.opus_packets.specs.Packet.{config_of}
-use Rattle.opus_packets.proofs.Tests.{few_frames}
+use Rattle.opus_packets.proofs.Sums.{few_frames}
 use Rattle.opus_packets.proofs.packet.frames_with_lengths.Goals as goal
 
 pub overflow_add-used-4 : goal.overflow_add-used-4

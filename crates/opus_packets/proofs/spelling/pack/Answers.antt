@@ -10,4 +10,4 @@ returns-clause-frames c =
     let n = c.put.result in
     let size : n ≡ length frame + 1 = omega (arith, c.put.ensures.len) in
     subst (λ (xs : List ℕ). IsOkAnd (cut_of (take n xs)) (λ cut. frames_of cut ≡ frame ∷ [])) (sym c.put.ensures.bytes)
-        (one_written c.args.toc frame (drop n c.args.out.now) n c.requires.code c.requires.limited size)
+    (one_written c.args.toc frame (drop n c.args.out.now) n c.requires.code c.requires.limited size)

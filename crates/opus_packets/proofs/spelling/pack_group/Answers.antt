@@ -14,4 +14,4 @@ returns-clause-frames c =
     let n = c.put.result in
     let size : n ≡ 2 + length frames = omega (arith, c.put.ensures.len) in
     subst (λ (xs : List ℕ). IsOkAnd (cut_of (take n xs)) (λ cut. frames_of cut ≡ equal_parts c.args.count frames)) (sym c.put.ensures.bytes)
-        (group_written c.args.toc c.args.count frames (drop n c.args.out.now) n c.requires.some c.requires.equal c.requires.limited c.requires.short size)
+    (group_written c.args.toc c.args.count frames (drop n c.args.out.now) n c.requires.some c.requires.equal c.requires.limited c.requires.short size)

@@ -11,4 +11,4 @@ returns-clause-item c =
     let start = c.start-start.ensures ∙ ap (λ (v : Cut). start_of v i) (sym c.self.view_is) in
     let size = c.from.ensures ∙ ap (λ xs. get_or xs i 0) c.deref.ensures.0 in
     subst (λ (v : Cut). slice_get (frames_of v) i ≡ Some (take (c.start-start.result + c.from.result - c.start-start.result) (drop c.start-start.result inside.packet.now)))
-        c.self.view_is (parts_from inside.lengths.items inside.packet.now inside.first i _ _ less start size)
+    c.self.view_is (parts_from inside.lengths.items inside.packet.now inside.first i _ _ less start size)

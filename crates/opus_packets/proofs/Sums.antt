@@ -109,8 +109,8 @@ duration_least config =
     let four : config % 4 < 4 = omega arith in
     let two : config % 2 < 2 = omega arith in
     in_either (nat_lt config 12) _ _ (at_least 480 960 1920 2880 (config % 4) (lit≤ tt) (lit≤ tt) (lit≤ tt) (lit≤ tt) four)
-        (in_either (nat_lt config 16) _ _ (at_least_two 480 960 (config % 2) (lit≤ tt) (lit≤ tt) two)
-            (at_least 120 240 480 960 (config % 4) (lit≤ tt) (lit≤ tt) (lit≤ tt) (lit≤ tt) four))
+    (in_either (nat_lt config 16) _ _ (at_least_two 480 960 (config % 2) (lit≤ tt) (lit≤ tt) two)
+    (at_least 120 240 480 960 (config % 4) (lit≤ tt) (lit≤ tt) (lit≤ tt) (lit≤ tt) four))
 
 -- so there are at most 48 frames
 pub few_frames : (count config : ℕ) → count * duration_of config ≤ 5760 → count ≤ 48
