@@ -4,6 +4,7 @@ pub mod FormsFound
 pub mod FormsRead
 pub mod Groups
 pub mod Headers
+pub mod HeadsSpelled
 pub mod Parts
 pub mod Spellings
 pub mod Sums

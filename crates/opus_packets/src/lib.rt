@@ -15,7 +15,8 @@ pub use fault::PacketFault;
 pub use frames::Frames;
 pub use header::{Head, HeadFault, read_head, write_head, write_tags};
 pub use laws::{
-    law_cut_packets_are_spelled, law_frames_follow_one_another, law_spelled_packets_are_cut,
+    law_cut_packets_are_spelled, law_frames_follow_one_another, law_read_heads_are_spelled,
+    law_spelled_heads_are_read, law_spelled_packets_are_cut,
 };
 pub use packet::split;
 pub use spelling::{pack, pack_group};
