@@ -1,5 +1,5 @@
 -- Lemmas on lengths and padding in octets, as loops read them one by one.
-use Rattle.std.proofs.Common.{◌≡◌, ℕ, zero, suc, ◌+◌, ◌-◌, ◌*◌, ◌<◌, ◌≤◌, List, [], ◌∷◌, ◌++◌, All, length, take, drop, sum, get_or, slice_index, Option, Some, None, option_map, refl, ap, arith, ◌∙◌, sym, add-zero, zero-add, add-one, append_assoc, min, nat_lt, ◌==◌, true, false, ◌≢◌, inl, inr}
+use Rattle.std.proofs.Common.{◌≡◌, ℕ, suc, ◌+◌, ◌-◌, ◌*◌, ◌<◌, ◌≤◌, List, [], ◌∷◌, ◌++◌, All, length, drop, slice_index, Option, Some, None, option_map, refl, ap, arith, ◌∙◌, add-zero, zero-add, append_assoc, min, nat_lt, ◌==◌, true, false, ◌≢◌, inl, inr}
 use Rattle.std.proofs.lemmas.List.{drop-drop, drop_more, drop_all, append-nil, length_push, length-drop}
 use Rattle.std.proofs.Math.Nat.{sub-zero}
 use Rattle.std.proofs.lemmas.Bool.{cases_eq}

@@ -1,15 +1,15 @@
 -- The form that spells a packet that is cut into frames.
-use Rattle.std.proofs.Common.{◌≡◌, ℕ, zero, suc, ◌+◌, ◌-◌, ◌*◌, ◌/◌, ◌%◌, ◌<◌, ◌≤◌, ◌≢◌, Bool, true, false, not, ◌||◌, ◌==◌, nat_lt, if◌then◌else◌, List, [], ◌∷◌, ◌++◌, All, map, flat_map, length, take, drop, replicate, sum, get_or, slice_index, Option, Some, None, IfSome, IfOk, is_some, refl, ap, arith, ◌∙◌, sym, subst, append_assoc}
+use Rattle.std.proofs.Common.{◌≡◌, ℕ, zero, suc, ◌+◌, ◌-◌, ◌*◌, ◌/◌, ◌%◌, ◌<◌, ◌≤◌, ◌≢◌, Bool, true, false, ◌==◌, nat_lt, if◌then◌else◌, List, [], ◌∷◌, ◌++◌, All, map, flat_map, length, take, drop, replicate, sum, Option, Some, None, IfSome, IfOk, is_some, refl, ap, arith, ◌∙◌, sym, subst, append_assoc}
 use Rattle.std.specs.List.{concat}
 use Rattle.std.proofs.Math.Nat.{div-add-mod}
-use Rattle.std.proofs.lemmas.List.{length-append, length-drop, length-map, length-replicate, length-take-le, append-nil, drop-drop, take_all, take_at, take-append-drop, take-map, nil_from_length, length_push}
+use Rattle.std.proofs.lemmas.List.{length-drop, length-map, length-replicate, length-take-le, drop-drop, take_all, take_at, take-append-drop, take-map, nil_from_length, length_push}
 use Rattle.std.proofs.lemmas.List.Sums.{sum_by_push}
 use Rattle.std.proofs.lemmas.List.Elements.{All-cons, All-nil, All-push, All-replicate}
 use Rattle.std.proofs.lemmas.Bool.Decides.{nat_tests}
 use Rattle.opus_packets.specs.declared.octets.Coded.{Coded}
-use Rattle.opus_packets.specs.Cut.{Cut, parts, frames_of}
+use Rattle.opus_packets.specs.Cut.{parts, frames_of}
 use Rattle.opus_packets.specs.Packet.{cut_of, one_frame, two_equal_frames, two_frames, many_frames, equal_frames, given_frames, frames_with_lengths, length_at, padding_at, padding_of, fitting, lengths_at, Lengths, config_of, duration_of, is_padded, has_lengths}
-use Rattle.opus_packets.specs.Form.{AreBytes, Form, One, TwoEqual, Two, Many, Padding, IsPadding, AreEqualUnless, IsMany, IsSound, IsSpelled, spelled, frames_in, length_octets, lengths_octets, padding_octets, padding_bytes, count_octet}
+use Rattle.opus_packets.specs.Form.{AreBytes, One, TwoEqual, Two, Many, Padding, IsPadding, AreEqualUnless, IsSpelled, length_octets, lengths_octets, padding_octets, padding_bytes, count_octet}
 use Rattle.opus_packets.proofs.Parts.{lengths_of_parts, concat_parts, sum_replicate}
 use Rattle.opus_packets.proofs.Groups.{all_by_lengths}
 use Rattle.opus_packets.proofs.Sums.{cut_by_0, cut_by_1, cut_by_2, cut_by_3}

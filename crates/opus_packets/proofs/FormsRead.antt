@@ -1,14 +1,13 @@
 -- The packet of each form is cut into the frames of the form.
-use Rattle.std.proofs.Common.{◌≡◌, ℕ, zero, suc, ◌+◌, ◌-◌, ◌*◌, ◌%◌, ◌<◌, ◌≤◌, Bool, true, false, if◌then◌else◌, List, [], ◌∷◌, ◌++◌, All, map, flat_map, length, take, drop, replicate, sum, get_or, slice_index, Option, Some, None, is_some, IsOkAnd, refl, ap, arith, ◌∙◌, sym, subst, append_assoc, lit≤, lit<}
+use Rattle.std.proofs.Common.{◌≡◌, ℕ, ◌+◌, ◌-◌, ◌*◌, ◌%◌, ◌<◌, ◌≤◌, true, false, if◌then◌else◌, List, [], ◌∷◌, ◌++◌, All, map, flat_map, length, take, drop, replicate, sum, get_or, Option, Some, is_some, IsOkAnd, refl, ap, arith, ◌∙◌, sym, subst, append_assoc, lit<}
 use Rattle.std.specs.List.{concat}
-use Rattle.std.proofs.lemmas.List.{drop_at, length-append, append-nil, length-map, length-replicate, drop-drop, take_more, take_all, map_push, length-take-le, take-map}
+use Rattle.std.proofs.lemmas.List.{drop_at, length-append, append-nil, length-map, drop-drop, take_more, take_all, map_push, length-take-le}
 use Rattle.std.proofs.lemmas.List.Sums.{sum_by_push}
 use Rattle.std.specs.declared.result.Result.{Result}
 use Rattle.opus_packets.specs.declared.fault.PacketFault.{PacketFault}
-use Rattle.opus_packets.specs.declared.octets.Coded.{Coded}
 use Rattle.opus_packets.specs.Cut.{Cut, frames_of, parts}
-use Rattle.opus_packets.specs.Packet.{cut_of, config_of, duration_of, is_padded, has_lengths, length_at, padding_of, lengths_at, Lengths}
-use Rattle.opus_packets.specs.Form.{Form, One, TwoEqual, Two, Many, frames_in, spelled, Padding, IsPadding, IsMany, IsSound, length_octets, lengths_octets, padding_octets, padding_bytes, count_octet}
+use Rattle.opus_packets.specs.Packet.{cut_of, config_of, duration_of, length_at, padding_of, lengths_at}
+use Rattle.opus_packets.specs.Form.{Form, One, TwoEqual, Two, Many, frames_in, spelled, Padding, IsSound, length_octets, lengths_octets, padding_octets, padding_bytes, count_octet}
 use Rattle.opus_packets.proofs.Parts.{parts_of, length_concat, sum_replicate}
 use Rattle.opus_packets.proofs.Sums.{cut_at, cut_by_0, cut_by_1, cut_by_2, one_sound, two_equal_sound, two_sound, few_frames}
 use Rattle.opus_packets.proofs.Written.{coded, said, said_taken, said_value, length_written, lengths_written, padding_read, many_equal, many_given, octet_count, octet_padded, octet_given}

@@ -1,12 +1,12 @@
 -- Lemmas on the packets that are written.
-use Rattle.std.proofs.Common.{◌≡◌, ℕ, zero, suc, ◌+◌, ◌-◌, ◌*◌, ◌/◌, ◌%◌, ◌<◌, ◌≤◌, true, false, List, [], ◌∷◌, ◌++◌, All, map, length, take, drop, replicate, sum, get_or, None, IsOkAnd, refl, ap, arith, ◌∙◌, sym, subst, append_assoc}
+use Rattle.std.proofs.Common.{◌≡◌, ℕ, ◌+◌, ◌-◌, ◌*◌, ◌/◌, ◌%◌, ◌≤◌, false, List, [], ◌∷◌, ◌++◌, All, map, length, take, replicate, sum, None, IsOkAnd, refl, ap, arith, ◌∙◌, sym}
 use Rattle.std.specs.List.{concat}
 use Rattle.std.proofs.lemmas.List.{append-nil, length-map, length-replicate, take_all, take_at}
 use Rattle.std.proofs.lemmas.List.Elements.{All-cons, All-nil, All-head, All-tail, All-replicate}
 use Rattle.std.proofs.Math.Nat.{div-add-mod}
 use Rattle.opus_packets.specs.Cut.{frames_of, parts, equal_parts}
 use Rattle.opus_packets.specs.Packet.{cut_of, config_of, duration_of}
-use Rattle.opus_packets.specs.Form.{Form, One, Many, spelled, IsSound, IsMany, count_octet}
+use Rattle.opus_packets.specs.Form.{One, Many, spelled, IsSound}
 use Rattle.opus_packets.proofs.Parts.{lengths_of_parts, concat_parts, sum_replicate}
 use Rattle.opus_packets.proofs.FormsRead.{frames_written}
 

@@ -1,5 +1,5 @@
 -- Lemmas on the identification header.
-use Rattle.std.proofs.Common.{◌≡◌, ℕ, ◌+◌, ◌-◌, ◌*◌, ◌⊎◌, true, List, take, drop, length, get_or, slice_index, arith, add-zero, ◌∙◌, ap, pos, ℤ, to_z, of_z, Fits, w8, w16, ◌<◌, ◌^◌, Ok, rules, refl, sym, inl, inr}
+use Rattle.std.proofs.Common.{◌≡◌, ℕ, ◌+◌, ◌-◌, ◌⊎◌, true, List, take, drop, length, get_or, slice_index, arith, add-zero, ◌∙◌, ap, ℤ, to_z, of_z, Fits, w8, w16, ◌<◌, ◌^◌, Ok, refl, inl, inr}
 use Rattle.std.proofs.lemmas.List.{get_or-drop, take_rest}
 use Rattle.std.proofs.lemmas.Int.{of_z-to_z}
 use Rattle.byteorder.specs.Endian.{little_number}

@@ -1,5 +1,5 @@
 -- An identification header and its spelling belong together.
-use Rattle.std.proofs.Common.{◌≡◌, ℕ, zero, suc, ◌+◌, ◌-◌, ◌*◌, ◌/◌, ◌%◌, ◌^◌, ◌<◌, ◌≤◌, ◌⊎◌, Bool, true, false, not, ◌||◌, ◌&&◌, ◌==◌, nat_eq, nat_lt, nat_le, List, [], ◌∷◌, ◌++◌, take, drop, length, get_or, slice_index, arith, ◌∙◌, ap, pos, ℤ, FitsSigned, to_z, of_z, Fits, w8, w16, Ok, IfOk, refl, sym, inl, inr, codes}
+use Rattle.std.proofs.Common.{◌≡◌, ℕ, ◌+◌, ◌*◌, ◌/◌, ◌%◌, ◌^◌, ◌<◌, ◌≤◌, ◌⊎◌, Bool, true, false, ◌||◌, ◌&&◌, ◌==◌, nat_eq, nat_lt, nat_le, List, [], ◌∷◌, ◌++◌, take, drop, length, get_or, slice_index, arith, ◌∙◌, ap, to_z, of_z, w16, Ok, IfOk, refl, sym, inl, inr, codes}
 use Rattle.std.specs.List.{starts_with}
 use Rattle.std.specs.Int.{bytes_low_first}
 use Rattle.std.specs.Cmp.Lexicographic.{same_text}
@@ -7,7 +7,6 @@ use Rattle.std.proofs.lemmas.List.{drop_more, take-append-drop}
 use Rattle.std.proofs.lemmas.Int.{to_z-of_z, of_z-to_z}
 use Rattle.std.proofs.lemmas.Bool.Decides.{nat_tests}
 use Rattle.std.proofs.Math.Facts.{Fits-of_z, Fits-bits, sfits_to_z}
-use Rattle.opus_packets.specs.declared.header.Head.{Head}
 use Rattle.opus_packets.specs.Header.{number_at, begins_head, head_of, fields_of, Fields, AreFields, IsSpelledHead, spelled_head, head_in}
 use Rattle.opus_packets.specs.Form.{AreBytes}
 use Rattle.opus_packets.proofs.Headers.{head_read}
@@ -26,13 +25,24 @@ pub head_spelled : (f : Fields) → AreFields f → head_of (spelled_head f) ≡
 head_spelled f is =
     let bits : of_z w16 f.gain < 2 ^ 16 = omega (arith, Fits-of_z {w = w16} is.gain) in
     sym (head_read (spelled_head f) f.preskip f.gain f.gain (begins_spelled f is.version) refl is.channels (sym (two_octets f.preskip is.preskip))
-        (sym (to_z-of_z w16 f.gain is.gain) ∙ ap (to_z w16) (sym (two_octets (of_z w16 f.gain) bits))))
+    (sym (to_z-of_z w16 f.gain is.gain) ∙ ap (to_z w16) (sym (two_octets (of_z w16 f.gain) bits))))
 
 -- nineteen bytes, one by one from the ninth on
 from_ninth : (xs : List ℕ) → 19 ≤ length xs → drop 8 xs ≡ get_or xs 8 0 ∷ get_or xs 9 0 ∷ get_or xs 10 0 ∷ get_or xs 11 0 ∷ get_or xs 12 0 ∷ get_or xs 13 0 ∷ get_or xs 14 0 ∷ get_or xs 15 0 ∷ get_or xs 16 0 ∷ get_or xs 17 0 ∷ get_or xs 18 0 ∷ drop 19 xs
 from_ninth xs long =
-    rw (drop_more xs 8 0 (omega arith), drop_more xs 9 0 (omega arith), drop_more xs 10 0 (omega arith), drop_more xs 11 0 (omega arith), drop_more xs 12 0 (omega arith),
-        drop_more xs 13 0 (omega arith), drop_more xs 14 0 (omega arith), drop_more xs 15 0 (omega arith), drop_more xs 16 0 (omega arith), drop_more xs 17 0 (omega arith), drop_more xs 18 0 (omega arith)) refl
+    rw (
+      drop_more xs 8 0 (omega arith),
+      drop_more xs 9 0 (omega arith),
+      drop_more xs 10 0 (omega arith),
+      drop_more xs 11 0 (omega arith),
+      drop_more xs 12 0 (omega arith),
+      drop_more xs 13 0 (omega arith),
+      drop_more xs 14 0 (omega arith),
+      drop_more xs 15 0 (omega arith),
+      drop_more xs 16 0 (omega arith),
+      drop_more xs 17 0 (omega arith),
+      drop_more xs 18 0 (omega arith),
+    ) refl
 
 and_both : (a b : Bool) → (a && b) ≡ true → (a ≡ true) × (b ≡ true)
 and_both true b e = (refl, e)
@@ -66,12 +76,12 @@ fields_spelled xs bytes begins family channels =
     let large : rate < 2 ^ 32 = omega (arith, bytes 12, bytes 13, bytes 14, bytes 15) in
     let gain = to_z w16 (number_at xs 16) in
     let all : spelled_head (record { version = slice_index xs 8; channels = slice_index xs 9; preskip = number_at xs 10; rate = rate; gain = gain; rest = drop 19 xs }) ≡ xs =
-        ap (λ n. codes "OpusHead" ++ (slice_index xs 8 ∷ slice_index xs 9 ∷ (bytes_low_first 0 2 (number_at xs 10) ++ (bytes_low_first 0 4 rate ++ (bytes_low_first 0 2 n ++ (0 ∷ drop 19 xs)))))) (of_z-to_z w16 (number_at xs 16) bits)
-        ∙ ap (λ ys. codes "OpusHead" ++ (slice_index xs 8 ∷ slice_index xs 9 ∷ (ys ++ (bytes_low_first 0 4 rate ++ (bytes_low_first 0 2 (number_at xs 16) ++ (0 ∷ drop 19 xs)))))) (two_spelled (slice_index xs 10) (slice_index xs 11) (bytes 10) (bytes 11))
-        ∙ ap (λ ys. codes "OpusHead" ++ (slice_index xs 8 ∷ slice_index xs 9 ∷ slice_index xs 10 ∷ slice_index xs 11 ∷ (ys ++ (bytes_low_first 0 2 (number_at xs 16) ++ (0 ∷ drop 19 xs))))) (four_spelled (slice_index xs 12) (slice_index xs 13) (slice_index xs 14) (slice_index xs 15) (bytes 12) (bytes 13) (bytes 14) (bytes 15))
-        ∙ ap (λ ys. codes "OpusHead" ++ (slice_index xs 8 ∷ slice_index xs 9 ∷ slice_index xs 10 ∷ slice_index xs 11 ∷ slice_index xs 12 ∷ slice_index xs 13 ∷ slice_index xs 14 ∷ slice_index xs 15 ∷ (ys ++ (0 ∷ drop 19 xs)))) (two_spelled (slice_index xs 16) (slice_index xs 17) (bytes 16) (bytes 17))
-        ∙ ap (λ n. codes "OpusHead" ++ (slice_index xs 8 ∷ slice_index xs 9 ∷ slice_index xs 10 ∷ slice_index xs 11 ∷ slice_index xs 12 ∷ slice_index xs 13 ∷ slice_index xs 14 ∷ slice_index xs 15 ∷ slice_index xs 16 ∷ slice_index xs 17 ∷ n ∷ drop 19 xs)) (sym family)
-        ∙ ap (λ ys. codes "OpusHead" ++ ys) (sym (from_ninth xs long)) ∙ ap (λ ys. ys ++ drop 8 xs) letters ∙ take-append-drop 8 xs in
+    ap (λ n. codes "OpusHead" ++ (slice_index xs 8 ∷ slice_index xs 9 ∷ (bytes_low_first 0 2 (number_at xs 10) ++ (bytes_low_first 0 4 rate ++ (bytes_low_first 0 2 n ++ (0 ∷ drop 19 xs)))))) (of_z-to_z w16 (number_at xs 16) bits)
+    ∙ ap (λ ys. codes "OpusHead" ++ (slice_index xs 8 ∷ slice_index xs 9 ∷ (ys ++ (bytes_low_first 0 4 rate ++ (bytes_low_first 0 2 (number_at xs 16) ++ (0 ∷ drop 19 xs)))))) (two_spelled (slice_index xs 10) (slice_index xs 11) (bytes 10) (bytes 11))
+    ∙ ap (λ ys. codes "OpusHead" ++ (slice_index xs 8 ∷ slice_index xs 9 ∷ slice_index xs 10 ∷ slice_index xs 11 ∷ (ys ++ (bytes_low_first 0 2 (number_at xs 16) ++ (0 ∷ drop 19 xs))))) (four_spelled (slice_index xs 12) (slice_index xs 13) (slice_index xs 14) (slice_index xs 15) (bytes 12) (bytes 13) (bytes 14) (bytes 15))
+    ∙ ap (λ ys. codes "OpusHead" ++ (slice_index xs 8 ∷ slice_index xs 9 ∷ slice_index xs 10 ∷ slice_index xs 11 ∷ slice_index xs 12 ∷ slice_index xs 13 ∷ slice_index xs 14 ∷ slice_index xs 15 ∷ (ys ++ (0 ∷ drop 19 xs)))) (two_spelled (slice_index xs 16) (slice_index xs 17) (bytes 16) (bytes 17))
+    ∙ ap (λ n. codes "OpusHead" ++ (slice_index xs 8 ∷ slice_index xs 9 ∷ slice_index xs 10 ∷ slice_index xs 11 ∷ slice_index xs 12 ∷ slice_index xs 13 ∷ slice_index xs 14 ∷ slice_index xs 15 ∷ slice_index xs 16 ∷ slice_index xs 17 ∷ n ∷ drop 19 xs)) (sym family)
+    ∙ ap (λ ys. codes "OpusHead" ++ ys) (sym (from_ninth xs long)) ∙ ap (λ ys. ys ++ drop 8 xs) letters ∙ take-append-drop 8 xs in
     record {
       fields = record { version = slice_index xs 8; channels = slice_index xs 9; preskip = number_at xs 10; rate = rate; gain = gain; rest = drop 19 xs };
       sound = record { version = version; channels = channels; preskip = small; rate = large; gain = sfits_to_z {w = w16} (Fits-bits 16 tt bits) };

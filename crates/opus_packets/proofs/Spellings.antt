@@ -1,11 +1,11 @@
 -- Every packet that is cut into frames is spelled by a form with these frames.
-use Rattle.std.proofs.Common.{◌≡◌, ℕ, zero, suc, ◌+◌, ◌-◌, ◌*◌, ◌/◌, ◌%◌, ◌<◌, ◌≤◌, ◌≢◌, Bool, true, false, ◌==◌, nat_lt, if◌then◌else◌, List, [], ◌∷◌, ◌++◌, All, map, flat_map, length, take, drop, replicate, sum, get_or, slice_index, Option, Some, None, option_map, option_and_then, IfSome, is_some, refl, ap, arith, ◌∙◌, sym, subst, append_assoc}
-use Rattle.std.proofs.lemmas.List.{get_or-drop, length-append, length-replicate, append-nil, drop-drop}
+use Rattle.std.proofs.Common.{◌≡◌, ℕ, zero, suc, ◌+◌, ◌-◌, ◌*◌, ◌/◌, ◌%◌, ◌<◌, ◌≤◌, Bool, true, false, ◌==◌, nat_lt, List, [], ◌∷◌, ◌++◌, All, flat_map, length, drop, replicate, Option, Some, None, option_map, option_and_then, IfSome, refl, ap, arith, ◌∙◌, sym, append_assoc}
+use Rattle.std.proofs.lemmas.List.{get_or-drop, length-append, drop-drop}
 use Rattle.std.proofs.lemmas.List.Elements.{All-cons, All-nil}
 use Rattle.std.proofs.lemmas.Bool.Decides.{nat_tests}
 use Rattle.opus_packets.specs.declared.octets.Coded.{Coded}
-use Rattle.opus_packets.specs.Packet.{length_at, padding_at, padding_of, fitting, lengths_at, with_254_more, with_first, Lengths}
-use Rattle.opus_packets.specs.Form.{AreBytes, length_octets, padding_octets, padding_bytes, Padding, IsPadding}
+use Rattle.opus_packets.specs.Packet.{length_at, padding_at, lengths_at, with_254_more, with_first, Lengths}
+use Rattle.opus_packets.specs.Form.{AreBytes, length_octets}
 
 pub bytes_drop : (n : ℕ) (xs : List ℕ) → AreBytes xs → AreBytes (drop n xs)
 bytes_drop n xs bytes i = rw (get_or-drop n xs i 0) (bytes (n + i))

@@ -1,12 +1,12 @@
 -- What each code answers of a packet, by sums of lengths in place of the tests.
-use Rattle.std.proofs.Common.{◌≡◌, ℕ, zero, suc, ◌+◌, ◌-◌, ◌*◌, ◌/◌, ◌%◌, ◌<◌, ◌≤◌, Bool, true, false, not, ◌||◌, ◌==◌, nat_lt, if◌then◌else◌, List, [], ◌∷◌, ◌++◌, length, drop, replicate, sum, slice_index, Some, Ok, refl, ap, arith, ◌∙◌, sym, lit≤}
+use Rattle.std.proofs.Common.{◌≡◌, ℕ, zero, suc, ◌+◌, ◌-◌, ◌*◌, ◌/◌, ◌%◌, ◌<◌, ◌≤◌, Bool, true, false, ◌==◌, nat_lt, if◌then◌else◌, List, [], ◌∷◌, ◌++◌, length, drop, replicate, sum, slice_index, Some, Ok, refl, ap, arith, ◌∙◌, lit≤}
 use Rattle.std.proofs.Math.Nat.{mul-mod_right, mul-div_cancel, mul_comm, mul-le-mul_left}
 use Rattle.std.proofs.lemmas.Bool.Decides.{nat_tests}
 use Rattle.std.specs.declared.result.Result.{Result}
 use Rattle.opus_packets.specs.declared.octets.Coded.{Coded}
 use Rattle.opus_packets.specs.declared.fault.PacketFault.{PacketFault}
 use Rattle.opus_packets.specs.Cut.{Cut}
-use Rattle.opus_packets.specs.Packet.{cut_of, one_frame, two_equal_frames, two_frames, many_frames, equal_frames, given_frames, frames_with_lengths, length_at, padding_of, Lengths, config_of, duration_of, count_of, is_padded, has_lengths}
+use Rattle.opus_packets.specs.Packet.{cut_of, one_frame, two_equal_frames, two_frames, many_frames, equal_frames, given_frames, frames_with_lengths, length_at, padding_of, Lengths, config_of, duration_of, is_padded, has_lengths}
 
 pub cut_by_0 : (packet : List ℕ) → 0 < length packet → slice_index packet 0 % 4 ≡ 0 → cut_of packet ≡ one_frame packet
 unfolding cut_of

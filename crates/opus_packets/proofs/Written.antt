@@ -1,13 +1,11 @@
 -- A packet that is spelled from its frames is cut into just these frames.
-use Rattle.std.proofs.Common.{◌≡◌, ℕ, zero, suc, ◌+◌, ◌-◌, ◌*◌, ◌/◌, ◌%◌, ◌<◌, ◌≤◌, ◌≢◌, Bool, true, false, ◌==◌, nat_lt, if◌then◌else◌, List, [], ◌∷◌, ◌++◌, All, map, flat_map, length, take, drop, replicate, sum, get_or, slice_index, Option, Some, None, option_map, is_some, refl, ap, arith, ◌∙◌, sym, append_assoc, inl, inr, ◌⊎◌}
-use Rattle.std.specs.List.{concat}
-use Rattle.std.proofs.lemmas.List.{take_at, drop_at, length-append, append-nil, length-replicate, length-map, drop-drop}
+use Rattle.std.proofs.Common.{◌≡◌, ℕ, zero, suc, ◌+◌, ◌-◌, ◌*◌, ◌/◌, ◌%◌, ◌<◌, ◌≤◌, Bool, true, false, ◌==◌, nat_lt, List, [], ◌∷◌, ◌++◌, flat_map, length, drop, replicate, sum, slice_index, Option, Some, None, is_some, refl, ap, arith, ◌∙◌, append_assoc}
+use Rattle.std.proofs.lemmas.List.{drop_at, length-append, length-replicate}
 use Rattle.std.proofs.lemmas.Bool.Decides.{nat_tests}
 use Rattle.opus_packets.specs.declared.octets.Coded.{Coded}
-use Rattle.opus_packets.specs.Packet.{cut_of, config_of, duration_of, is_padded, has_lengths, frames_with_lengths, length_at, padding_at, padding_of, fitting, lengths_at, with_254_more, with_first, Lengths}
+use Rattle.opus_packets.specs.Packet.{cut_of, config_of, duration_of, is_padded, has_lengths, frames_with_lengths, length_at, padding_at, padding_of, lengths_at, Lengths}
 use Rattle.opus_packets.specs.Form.{count_octet, length_octets, padding_octets, padding_bytes, Padding, IsPadding}
-use Rattle.opus_packets.proofs.Parts.{parts_of, length_concat}
-use Rattle.opus_packets.proofs.Sums.{cut_at, cut_by_0, cut_by_1, cut_by_2, cut_by_3, one_sound, two_equal_sound, two_sound, equal_sound, given_sound, many_sound, few_frames}
+use Rattle.opus_packets.proofs.Sums.{cut_at, cut_by_3, equal_sound, given_sound, many_sound}
 
 -- a value and the octets that say it
 abbrev pub coded : ℕ → ℕ → Coded

@@ -1,6 +1,6 @@
 -- How an Opus packet is cut into its frames, and the first rule that it breaks (RFC 6716, section 3;
 -- the rules R1 to R7 are those of section 3.4).
-use Rattle.std.specs.Prelude.{◌≡◌, ℕ, All, zero, suc, ◌+◌, ◌-◌, ◌*◌, ◌/◌, ◌%◌, ◌<◌, ◌≤◌, Bool, true, false, not, ◌||◌, ◌==◌, nat_lt, if◌then◌else◌, List, [], ◌∷◌, ◌++◌, length, drop, replicate, sum, slice_index, Option, Some, None, option_map, option_and_then, Result, Ok, Err}
+use Rattle.std.specs.Prelude.{ℕ, All, zero, suc, ◌+◌, ◌-◌, ◌*◌, ◌/◌, ◌%◌, ◌≤◌, Bool, not, ◌||◌, ◌==◌, nat_lt, if◌then◌else◌, List, [], ◌∷◌, ◌++◌, length, drop, replicate, sum, slice_index, Option, Some, None, option_map, option_and_then, Result, Ok, Err}
 use Rattle.opus_packets.specs.Cut.{Cut}
 use Rattle.opus_packets.specs.declared.octets.Coded.{Coded}
 use Rattle.opus_packets.specs.declared.fault.PacketFault.{PacketFault}

@@ -31,12 +31,10 @@ pub fn law_frames_follow_one_another()
 /// (RFC 7845, section 5.1).
 pub fn law_spelled_heads_are_read()
     ensures { (fields : Fields) → AreFields fields → head_of (spelled_head fields) ≡ Ok (head_in fields) }
-{
-}
+{}
 
 /// Every identification header that is read is spelled from fields that it says (RFC 7845, section
 /// 5.1).
 pub fn law_read_heads_are_spelled()
     ensures { (bytes : List ℕ) → AreBytes bytes → IfOk (head_of bytes) (λ head. IsSpelledHead bytes head) }
-{
-}
+{}

@@ -1,5 +1,5 @@
-use Rattle.std.proofs.Common.{◌≡◌, ◌⊎◌, slice_index, sym, ◌∙◌, inl, inr, true, arith}
-use Rattle.opus_packets.specs.Header.{head_of, begins_head}
+use Rattle.std.proofs.Common.{◌≡◌, ◌⊎◌, slice_index, ◌∙◌, inl, inr, true, arith}
+use Rattle.opus_packets.specs.Header.{begins_head}
 use Rattle.opus_packets.proofs.Headers.{head_read, read_number, read_signed}
 use Rattle.opus_packets.proofs.header.read_head.Goals as goal
 use Rattle.opus_packets.proofs.header.read_head.Goals.{else-packet-ne1-via-then-packet-ne1+else-packet-ne2, else-packet-ne1-via-else-packet-ne1}

@@ -1,4 +1,4 @@
-use Rattle.std.proofs.Common.{◌≡◌, ◌≤◌, ℕ, List, length, ap, ◌∙◌, sym, subst}
+use Rattle.std.proofs.Common.{◌≤◌, ℕ, List, length, ap, ◌∙◌, sym, subst}
 use Rattle.opus_packets.specs.Packet.{length_at}
 use Rattle.opus_packets.proofs.Codings.{reading_more, reading_none, reading_end}
 use Rattle.opus_packets.proofs.octets.lengths_at.Goals as goal

@@ -1,4 +1,4 @@
-use Rattle.std.proofs.Common.{◌≡◌, ◌+◌, min, slice_index, arith, ◌<◌, ◌≤◌, length, ap, sym, ◌∙◌}
+use Rattle.std.proofs.Common.{◌≡◌, ◌+◌, min, slice_index, arith, ◌<◌, ap, sym, ◌∙◌}
 use Rattle.opus_packets.proofs.Codings.{padded_more, padded_long, padded_last, padded_none}
 use Rattle.opus_packets.proofs.octets.padding_within.Goals as goal
 

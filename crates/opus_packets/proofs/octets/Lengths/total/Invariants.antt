@@ -1,4 +1,4 @@
-use Rattle.std.proofs.Common.{◌≡◌, ◌*◌, ◌≤◌, take, sum, length}
+use Rattle.std.proofs.Common.{◌≡◌, ◌*◌, ◌≤◌, take, sum}
 use Rattle.opus_packets.proofs.octets.Lengths.total.Given as goal
 
 abbrev pub invariant-loop-length : goal.invariant-loop-length
