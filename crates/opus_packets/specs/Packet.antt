@@ -51,11 +51,12 @@ length_at (f ∷ rest) = if nat_lt f 252 then Some (record { value = f; taken = 
     second f [] = None
     second f (s ∷ rest) = Some (record { value = f + 4 * s; taken = 2 })
 
--- the octets of padding (section 3.2.5): an octet of 255 stands for 254 of them, and the next octet
--- goes on; one below 255 stands for as many as it says, and is the last
+-- 254 more octets of padding, and one more octet that says so
 abbrev pub with_254_more : Coded → Coded
 with_254_more next = record { value = 254 + next.value; taken = 1 + next.taken }
 
+-- the octets of padding (section 3.2.5): an octet of 255 stands for 254 of them, and the next octet
+-- goes on; one below 255 stands for as many as it says, and is the last
 unfoldable pub padding_at : List ℕ → Option Coded
 padding_at [] = None
 padding_at (p ∷ rest) =
@@ -72,14 +73,16 @@ unfoldable pub padding_of : Bool → List ℕ → Option Coded
 padding_of padded bytes =
     if padded then fitting (length bytes) (padding_at bytes) else Some (record { value = 0; taken = 0 })
 
--- the lengths of the n frames that begin the bytes, and how many octets say so
+-- lengths of frames, and how many octets say so
 pub record Lengths : Type 0 where
   pub values : List ℕ
   pub taken : ℕ
 
+-- one more length, before the others
 abbrev pub with_first : Coded → Lengths → Lengths
 with_first l rest = record { values = l.value ∷ rest.values; taken = l.taken + rest.taken }
 
+-- the lengths of n frames that begin the bytes, where they are whole
 unfoldable pub lengths_at : ℕ → List ℕ → Option Lengths
 lengths_at zero bytes = Some (record { values = []; taken = 0 })
 lengths_at (suc n) bytes =
@@ -111,7 +114,19 @@ two_frames packet (Some l) =
     if nat_lt 1275 (length packet - used) then Err R2 else
     Ok (record { packet = packet; first = 1 + l.taken; lengths = l.value ∷ (length packet - used) ∷ [] })
 
--- code 3 (section 3.2.5) with frames of one length
+-- The second octet of a code 3 packet: six bits of count, a flag for padding, a flag for
+-- given lengths (section 3.2.5)
+
+abbrev pub count_of : ℕ → ℕ
+count_of octet = octet % 64
+
+abbrev pub is_padded : ℕ → Bool
+is_padded octet = octet / 64 % 2 == 1
+
+abbrev pub has_lengths : ℕ → Bool
+has_lengths octet = octet / 128 % 2 == 1
+
+-- code 3 with frames of one length
 unfoldable pub equal_frames : ℕ → List ℕ → Option Coded → Result Cut PacketFault
 equal_frames count packet None = Err R6
 equal_frames count packet (Some padding) =
@@ -120,7 +135,7 @@ equal_frames count packet (Some padding) =
     if nat_lt 1275 (room / count) then Err R2 else
     Ok (record { packet = packet; first = 2 + padding.taken; lengths = replicate count (room / count) })
 
--- code 3 (section 3.2.5) with the lengths of all frames but the last
+-- code 3 with the lengths of all frames but the last, once these are read
 unfoldable pub given_frames : List ℕ → Coded → Option Lengths → Result Cut PacketFault
 given_frames packet padding None = Err R7
 given_frames packet padding (Some given) =
@@ -133,23 +148,13 @@ given_frames packet padding (Some given) =
       lengths = given.values ++ (length packet - used) ∷ [];
     })
 
+-- code 3 with the lengths of all frames but the last
 unfoldable pub frames_with_lengths : ℕ → List ℕ → Option Coded → Result Cut PacketFault
 frames_with_lengths count packet None = Err R7
 frames_with_lengths count packet (Some padding) =
     given_frames packet padding (lengths_at (count - 1) (drop (2 + padding.taken) packet))
 
--- The second octet of a code 3 packet: six bits of count, a flag for padding, a flag for given lengths
-
-abbrev pub count_of : ℕ → ℕ
-count_of octet = octet % 64
-
-abbrev pub is_padded : ℕ → Bool
-is_padded octet = octet / 64 % 2 == 1
-
-abbrev pub has_lengths : ℕ → Bool
-has_lengths octet = octet / 128 % 2 == 1
-
--- code 3: a count of frames that last at most 120 ms, which are 5760 samples
+-- code 3: a count of frames, which last at most 120 ms, or 5760 samples
 unfoldable pub many_frames : List ℕ → Result Cut PacketFault
 many_frames packet =
     let octet = slice_index packet 1 in

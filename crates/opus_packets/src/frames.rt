@@ -1,6 +1,6 @@
 //! The frames of an Opus packet (RFC 6716, section 3).
-ghost use Rattle.std.specs.Prelude.{◌≡◌, ◌+◌, ◌*◌, ◌≤◌, ◌<◌, Some, length, slice_get, slice_index, slice_range};
-ghost use Rattle.opus_packets.specs.Cut.{start_of, end_of, frames_of};
+ghost use Rattle.std.specs.Prelude.{◌≡◌, ◌+◌, ◌*◌, ◌≤◌, ◌<◌, Some, length, slice_get, slice_index};
+ghost use Rattle.opus_packets.specs.Cut.{start_of, end_of, frame_at, frames_of};
 ghost use Rattle.opus_packets.specs.Packet.{config_of, is_stereo, duration_of, samples_of, IsCut};
 
 use arrayvec::ArrayVec;
@@ -9,7 +9,8 @@ use std::marker::Model;
 /// The greatest number of frames of a packet: 48 frames of 2.5 ms last 120 ms.
 pub(crate) const MOST_FRAMES: usize = 48;
 
-/// An Opus packet with its frames, which are slices of it, one behind the other.
+/// An Opus packet with its frames, which are slices of it, one behind the other. A clause sees the
+/// packet, the place of the first frame, and the lengths.
 #[derive(Drop)]
 pub struct Frames<'a> {
     packet: &'a [u8],
@@ -73,11 +74,11 @@ impl<'a> Frames<'a> {
         self.lengths.len()
     }
 
-    /// The bytes of frame `i`, at most 1275. One of 0 or 1 bytes stands for a frame that was lost or not
-    /// sent.
+    /// The bytes of frame `i`, at most 1275, as they stand in the packet. One of 0 or 1 bytes stands for a
+    /// frame that was lost or not sent.
     pub fn frame(&self, i: usize) -> &'a [u8]
         requires { i < length self.now.lengths }
-        ensures place { result.now ≡ slice_range self.now.packet (start_of self.now i) (end_of self.now i) }
+        ensures place { result.now ≡ frame_at self.now i }
         ensures within { end_of self.now i ≤ length self.now.packet }
         ensures limit { length result.now ≤ 1275 }
         ensures item { slice_get (frames_of self.now) i ≡ Some result.now }
