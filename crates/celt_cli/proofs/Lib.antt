@@ -1,4 +1,5 @@
 pub mod Accepting
+pub mod Prefixes
 pub mod Read
 pub mod Samples
 pub mod Walking

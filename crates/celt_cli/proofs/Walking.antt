@@ -49,11 +49,11 @@ samples_on-append (head ∷ tags ∷ audio) page =
     ∙ ap (λ l. flat_map silence_of audio ++ l) (append-nil (silence_of page) ∙ sym (ap (λ b. if b then [] else silence_of page) many))
 
 -- a page of the form goes to the front
-built_first : (before : List Page) (page : Page) (pages : List Page) → is_built before page ≡ true
+pub built_first : (before : List Page) (page : Page) (pages : List Page) → is_built before page ≡ true
     → accepted_after before (page ∷ pages) ≡ page ∷ accepted_after (before ++ page ∷ []) pages
 built_first before page pages h = ap (λ b. if b then page ∷ accepted_after (before ++ page ∷ []) pages else []) h
 
-not_built_first : (before : List Page) (page : Page) (pages : List Page) → is_built before page ≡ false → accepted_after before (page ∷ pages) ≡ []
+pub not_built_first : (before : List Page) (page : Page) (pages : List Page) → is_built before page ≡ false → accepted_after before (page ∷ pages) ≡ []
 not_built_first before page pages h = ap (λ b. if b then page ∷ accepted_after (before ++ page ∷ []) pages else []) h
 
 -- ---- one turn
@@ -145,7 +145,7 @@ at_break bytes rest p old now broken fault w v is = no_more bytes rest p old now
 -- ---- a failed write
 
 -- the samples of the front and of the next page are a front of all samples
-samples_ahead : (front : List Page) (before : List Page) → (more : List Page) → front ≡ before ++ more → (rest : List ℕ) × (samples_on front ≡ samples_on before ++ rest)
+pub samples_ahead : (front : List Page) (before : List Page) → (more : List Page) → front ≡ before ++ more → (rest : List ℕ) × (samples_on front ≡ samples_on before ++ rest)
 samples_ahead front before [] e = ([], ap samples_on (e ∙ append-nil before) ∙ sym (append-nil (samples_on before)))
 samples_ahead front before (page ∷ more) e =
     let r = samples_ahead front (before ++ page ∷ []) more (e ∙ sym (append_assoc before (page ∷ []) more)) in

@@ -7,7 +7,7 @@ ghost use Rattle.celt_cli.specs.Decoding.{silence_of, name_of, fault_at, end_fau
 ghost use Rattle.celt_cli.specs.Silences.{IsSilence, samples_behind};
 ghost use Rattle.celt_cli.specs.Outcomes.{Decodes};
 
-use crate::form::samples;
+use crate::silence::samples;
 use crate::progress::Progress;
 use celt_base::outside::{Failed, Sink};
 use celt_base::status::{Fault, FaultName};

@@ -2,6 +2,6 @@
 #![tactic(auto)]
 
 pub mod decoding;
-pub mod form;
+pub mod silence;
 pub mod progress;
 pub mod reading;
