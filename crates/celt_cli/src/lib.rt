@@ -4,5 +4,6 @@
 pub mod commands;
 pub mod decoding;
 pub mod silence;
+pub mod notes;
 pub mod progress;
 pub mod reading;
