@@ -4,4 +4,6 @@ pub mod Notes
 pub mod Outcomes
 pub mod Progressing
 pub mod Reads
+pub mod Runs
 pub mod Silences
+pub mod Words

@@ -5,5 +5,6 @@ pub mod commands;
 pub mod decoding;
 pub mod silence;
 pub mod notes;
+pub mod program;
 pub mod progress;
 pub mod reading;
