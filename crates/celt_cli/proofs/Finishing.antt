@@ -88,7 +88,7 @@ begins limit xs got ys e end = by_len (cases_lt limit (length got)) where
       let len : length xs ≡ length got + length ys = ap length e ∙ length-append got ys in
       record {
         first = ap (take limit) e ∙ take-append-le limit got ys (omega arith);
-        long = lt-ltb limit (length xs) (omega arith) ∙ sym (lt-ltb limit (length got) past)
+        long = lt-ltb limit (length xs) (omega arith) ∙ sym (lt-ltb limit (length got) past);
       }
   by_len (inr within) =
       let same : xs ≡ got = e ∙ ap (λ l. got ++ l) (end within) ∙ append-nil got in
@@ -126,5 +126,5 @@ pub writes_input : (limit : ℕ) (old new : Option (List ℕ)) (got first : List
     → IfSome old (λ xs. Writes limit xs before now status)
 writes_input limit old new got first long status before now r f a w =
     if_some old (λ xs. Begins limit xs got) (λ xs. Writes limit xs before now status)
-      (λ xs b. finish limit xs before now status (answers_at limit xs got first long status f a b) (subst (λ l. WritesFirst l before now status) (f.first_is ∙ sym b.first) w))
-      (begins_input limit old new got r.0 r.1)
+    (λ xs b. finish limit xs before now status (answers_at limit xs got first long status f a b) (subst (λ l. WritesFirst l before now status) (f.first_is ∙ sym b.first) w))
+    (begins_input limit old new got r.0 r.1)

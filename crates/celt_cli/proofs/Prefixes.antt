@@ -1,6 +1,7 @@
 -- What more bytes do to the samples and to the fault.
 use Rattle.std.proofs.Common.{◌≡◌, ℕ, zero, suc, ◌+◌, ◌<◌, ◌≤◌, Bool, true, false, List, [], ◌∷◌, ◌++◌, length, take, drop, refl, sym, ◌∙◌, ap, subst, arith, append_assoc, append-nil, length-append, Option, Some, None, nat_lt, ◌⊎◌, inl, inr, pos}
 use Rattle.std.specs.Prelude.{if◌then◌else◌, not, ◌&&◌}
+use Rattle.std.proofs.Math.Seq.{take-append_seam}
 use Rattle.std.proofs.lemmas.Bool.{lt-ltb, le-ltb, ltb-true, ltb-false, cases_lt, cases_Bool}
 use Rattle.celt_base.specs.declared.status.Fault.{Fault}
 use Rattle.celt_base.specs.declared.status.FaultName.TheVariants as names
@@ -19,9 +20,10 @@ accepted-append before [] qs = (accepted_after before qs, refl)
 accepted-append before (p ∷ ps) qs = by_test (accepted-append (before ++ p ∷ []) ps qs) (cases_Bool (is_built before p)) where
   by_test : (rest : List Page) × (accepted_after (before ++ p ∷ []) (ps ++ qs) ≡ accepted_after (before ++ p ∷ []) ps ++ rest) → (is_built before p ≡ true) ⊎ (is_built before p ≡ false)
       → (rest : List Page) × (accepted_after before (p ∷ (ps ++ qs)) ≡ accepted_after before (p ∷ ps) ++ rest)
-  by_test r (inl h) =
-      ( r.0
-      , built_first before p (ps ++ qs) h ∙ ap (λ l. p ∷ l) r.1 ∙ sym (ap (λ l. l ++ r.0) (built_first before p ps h)) )
+  by_test r (inl h) = (
+    r.0,
+    built_first before p (ps ++ qs) h ∙ ap (λ l. p ∷ l) r.1 ∙ sym (ap (λ l. l ++ r.0) (built_first before p ps h)),
+  )
   by_test r (inr h) =
       ([], not_built_first before p (ps ++ qs) h ∙ sym (ap (λ l. l ++ []) (not_built_first before p ps h)))
 
@@ -69,9 +71,10 @@ accepted-whole before (p ∷ ps) qs h = by_test (accepted-whole (before ++ p ∷
       → (accepted_after before (p ∷ ps) ≡ p ∷ ps) × (accepted_after before (p ∷ (ps ++ qs)) ≡ p ∷ (ps ++ accepted_after (before ++ p ∷ ps) qs))
   by_test again (inl t) =
       let longer : length (p ∷ ps) ≤ length (p ∷ accepted_after (before ++ p ∷ []) ps) = subst (λ l. length (p ∷ ps) ≤ length l) (built_first before p ps t) h in
-      let r = again (omega arith) in
-      ( built_first before p ps t ∙ ap (λ l. p ∷ l) r.0
-      , built_first before p (ps ++ qs) t ∙ ap (λ l. p ∷ l) (r.1 ∙ ap (λ l. ps ++ accepted_after l qs) (append_assoc before (p ∷ []) ps)) )
+      let r = again (omega arith) in (
+        built_first before p ps t ∙ ap (λ l. p ∷ l) r.0,
+        built_first before p (ps ++ qs) t ∙ ap (λ l. p ∷ l) (r.1 ∙ ap (λ l. ps ++ accepted_after l qs) (append_assoc before (p ∷ []) ps)),
+      )
   by_test again (inr t) =
       let longer : length (p ∷ ps) ≤ 0 = subst (λ l. length (p ∷ ps) ≤ length l) (not_built_first before p ps t) h in
       absurd (omega arith)
@@ -95,8 +98,8 @@ behind_stopped s t g fault less h =
     record {
       front = front;
       fault_is = ap (λ l. fault_behind l t) front
-        ∙ ap (λ b. behind_by b (accepted s) t.ending) (lt-ltb (length (accepted s)) (length t.pages) (omega arith))
-        ∙ sym (ap (λ b. behind_by b (accepted s) s.ending) (lt-ltb (length (accepted s)) (length s.pages) less)) ∙ h
+          ∙ ap (λ b. behind_by b (accepted s) t.ending) (lt-ltb (length (accepted s)) (length t.pages) (omega arith))
+          ∙ sym (ap (λ b. behind_by b (accepted s) s.ending) (lt-ltb (length (accepted s)) (length s.pages) less)) ∙ h;
     }
 
 not_done : (k : ℕ) (ending : Ending) → (ending ≡ Sound → ⊥) → end_fault true k ending ≡ Some (fault_at names.NotBuilt k)
@@ -111,23 +114,23 @@ behind_ended s t g fault whole ended cut h =
     let w = accepted-whole [] s.pages g.more_pages whole in
     let ended_pages : is_ended (drop 2 s.pages) ≡ true = ap (λ l. is_ended (drop 2 l)) (sym w.0) ∙ ended in
     let front : accepted t ≡ accepted s =
-      ap (accepted_after []) g.pages ∙ w.1 ∙ ap (λ l. s.pages ++ l) (accepted-ended s.pages g.more_pages ended_pages) ∙ append-nil s.pages ∙ sym w.0 in
+    ap (accepted_after []) g.pages ∙ w.1 ∙ ap (λ l. s.pages ++ l) (accepted-ended s.pages g.more_pages ended_pages) ∙ append-nil s.pages ∙ sym w.0 in
     let here : fault_behind (accepted s) s ≡ Some (fault_at names.NotBuilt (length (accepted s))) =
-      ap (λ b. behind_by b (accepted s) s.ending) (le-ltb (length (accepted s)) (length s.pages) whole)
-      ∙ ap (λ b. end_fault b (length (accepted s)) s.ending) ended ∙ ap (end_fault true (length (accepted s))) cut in
+    ap (λ b. behind_by b (accepted s) s.ending) (le-ltb (length (accepted s)) (length s.pages) whole)
+    ∙ ap (λ b. end_fault b (length (accepted s)) s.ending) ended ∙ ap (end_fault true (length (accepted s))) cut in
     record { front = front; fault_is = ap (λ l. fault_behind l t) front ∙ by_pages g.more_pages g.pages (cases_lt (length (accepted s)) (length t.pages)) ∙ sym here ∙ h }
   where
-  by_pages : (more : List Page) → t.pages ≡ s.pages ++ more → (length (accepted s) < length t.pages) ⊎ (length t.pages ≤ length (accepted s))
-      → fault_behind (accepted s) t ≡ Some (fault_at names.NotBuilt (length (accepted s)))
-  by_pages more e (inl less) = ap (λ b. behind_by b (accepted s) t.ending) (lt-ltb (length (accepted s)) (length t.pages) less)
-  by_pages [] e (inr no_less) =
-      let sound : t.ending ≡ Sound → ⊥ = g.unsound cut (e ∙ append-nil s.pages) in
-      ap (λ b. behind_by b (accepted s) t.ending) (le-ltb (length (accepted s)) (length t.pages) no_less)
-      ∙ ap (λ b. end_fault b (length (accepted s)) t.ending) ended ∙ not_done (length (accepted s)) t.ending sound
-  by_pages (page ∷ more) e (inr no_less) =
-      let front_len : length (accepted s) ≡ length s.pages = ap length (accepted-whole [] s.pages g.more_pages whole).0 in
-      let longer : length t.pages ≡ length s.pages + length (page ∷ more) = ap length e ∙ length-append s.pages (page ∷ more) in
-      absurd (omega arith)
+    by_pages : (more : List Page) → t.pages ≡ s.pages ++ more → (length (accepted s) < length t.pages) ⊎ (length t.pages ≤ length (accepted s))
+        → fault_behind (accepted s) t ≡ Some (fault_at names.NotBuilt (length (accepted s)))
+    by_pages more e (inl less) = ap (λ b. behind_by b (accepted s) t.ending) (lt-ltb (length (accepted s)) (length t.pages) less)
+    by_pages [] e (inr no_less) =
+        let sound : t.ending ≡ Sound → ⊥ = g.unsound cut (e ∙ append-nil s.pages) in
+        ap (λ b. behind_by b (accepted s) t.ending) (le-ltb (length (accepted s)) (length t.pages) no_less)
+        ∙ ap (λ b. end_fault b (length (accepted s)) t.ending) ended ∙ not_done (length (accepted s)) t.ending sound
+    by_pages (page ∷ more) e (inr no_less) =
+        let front_len : length (accepted s) ≡ length s.pages = ap length (accepted-whole [] s.pages g.more_pages whole).0 in
+        let longer : length t.pages ≡ length s.pages + length (page ∷ more) = ap length e ∙ length-append s.pages (page ∷ more) in
+        absurd (omega arith)
 
 -- the fault where all pages were accepted
 behind_is : (s : Stream) (ended : Bool) (ending : Ending) → length s.pages ≤ length (accepted s) → is_ended (drop 2 (accepted s)) ≡ ended → s.ending ≡ ending
@@ -171,3 +174,6 @@ unfolding fault_of full
 stays bytes more fault h n =
     let r = stays_broken (stream bytes) (stream (bytes ++ more)) (goes_on bytes more) fault h n in
     record { fault_is = r.fault_is; samples = ap samples_on r.front }
+
+pub front_of_more : (bytes more : List ℕ) → take (length (full bytes)) (full (bytes ++ more)) ≡ full bytes
+front_of_more bytes more = let r = full-append bytes more in ap (take (length (full bytes))) r.1 ∙ take-append_seam (full bytes) r.0

@@ -3,8 +3,11 @@
 
 pub mod commands;
 pub mod decoding;
-pub mod silence;
+pub mod laws;
 pub mod notes;
 pub mod program;
 pub mod progress;
 pub mod reading;
+pub mod silence;
+#[cfg(test)]
+mod tests;

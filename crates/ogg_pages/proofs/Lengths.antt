@@ -21,6 +21,6 @@ lacing-sum bytes small =
     let each : (k : ℕ) → get_or (lacing_of bytes) k 0 < 256 = λ k. lacing_small k (cases_lt k (segments_of bytes)) in
     omega (arith, sum-bytes (lacing_of bytes) each)
   where
-  lacing_small : (k : ℕ) → (k < segments_of bytes) ⊎ (segments_of bytes ≤ k) → get_or (lacing_of bytes) k 0 < 256
-  lacing_small k (inl inside) = rw (get_or-take, get_or-drop) (small (27 + k))
-  lacing_small k (inr past) = rw (get_or_past (lacing_of bytes) k 0 (simp length-take (omega arith))) (omega arith)
+    lacing_small : (k : ℕ) → (k < segments_of bytes) ⊎ (segments_of bytes ≤ k) → get_or (lacing_of bytes) k 0 < 256
+    lacing_small k (inl inside) = rw (get_or-take, get_or-drop) (small (27 + k))
+    lacing_small k (inr past) = rw (get_or_past (lacing_of bytes) k 0 (simp length-take (omega arith))) (omega arith)

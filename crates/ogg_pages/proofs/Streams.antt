@@ -99,7 +99,7 @@ cut_not_sound (byte ∷ bytes) more c none sound = not_sound byte (bytes ++ more
 goes_on_cut : (bytes more : List ℕ) → verdict bytes ≡ Need → GoesOn (stream bytes) (stream (bytes ++ more))
 goes_on_cut bytes more h =
     subst (λ s. GoesOn s (stream (bytes ++ more))) (sym (stream-Need bytes h))
-      (record { more_pages = (stream (bytes ++ more)).pages; pages = refl; broken = λ fault b. absurd (no_break bytes fault h b); unsound = λ c same sound. cut_not_sound bytes more c same sound })
+    (record { more_pages = (stream (bytes ++ more)).pages; pages = refl; broken = λ fault b. absurd (no_break bytes fault h b); unsound = λ c same sound. cut_not_sound bytes more c same sound })
 
 broken_not_cut : (fault : PageFault) → Broken fault ≡ Cut → ⊥
 broken_not_cut fault e = cc
@@ -108,18 +108,26 @@ goes_on_broken : (bytes more : List ℕ) (fault : PageFault) → verdict bytes �
 goes_on_broken bytes more fault h =
     let later = fault_stays bytes more fault h in
     let same : no_page (bytes ++ more) ≡ no_page bytes =
-      ap (λ (e : Ending). record { pages = []; ending = e }) (ending_of-Fault (bytes ++ more) fault later ∙ sym (ending_of-Fault bytes fault h)) in
+    ap (λ (e : Ending). record { pages = []; ending = e }) (ending_of-Fault (bytes ++ more) fault later ∙ sym (ending_of-Fault bytes fault h)) in
     let whole : stream (bytes ++ more) ≡ stream bytes = stream-Fault (bytes ++ more) fault later ∙ same ∙ sym (stream-Fault bytes fault h) in
-    record { more_pages = []; pages = ap (λ (s : Stream). s.pages) whole ∙ sym (append-nil (stream bytes).pages); broken = λ f b. whole;
-      unsound = λ c same sound. broken_not_cut fault (sym (ending_of-Fault bytes fault h) ∙ ap (λ (s : Stream). s.ending) (sym (stream-Fault bytes fault h)) ∙ c) }
+    record {
+      more_pages = [];
+      pages = ap (λ (s : Stream). s.pages) whole ∙ sym (append-nil (stream bytes).pages);
+      broken = λ f b. whole;
+      unsound = λ c same sound. broken_not_cut fault (sym (ending_of-Fault bytes fault h) ∙ ap (λ (s : Stream). s.ending) (sym (stream-Fault bytes fault h)) ∙ c);
+    }
 
 tail_of : (page : Page) (xs ys : List Page) → page ∷ xs ≡ page ∷ ys → xs ≡ ys
 tail_of page xs ys e = cc
 
 with_page-GoesOn : (page : Page) (s t : Stream) → GoesOn s t → GoesOn (with_page page s) (with_page page t)
 with_page-GoesOn page s t g =
-    record { more_pages = g.more_pages; pages = ap (λ l. page ∷ l) g.pages; broken = λ fault b. ap (with_page page) (g.broken fault b);
-      unsound = λ c same sound. g.unsound c (tail_of page t.pages s.pages same) sound }
+    record {
+      more_pages = g.more_pages;
+      pages = ap (λ l. page ∷ l) g.pages;
+      broken = λ fault b. ap (with_page page) (g.broken fault b);
+      unsound = λ c same sound. g.unsound c (tail_of page t.pages s.pages same) sound;
+    }
 
 -- one page, and what goes on behind it
 goes_on_once : (bytes more : List ℕ) (v : Verdict) → verdict bytes ≡ v → ((l : List ℕ) → length l < length bytes → GoesOn (stream l) (stream (l ++ more)))
@@ -131,9 +139,9 @@ goes_on_once bytes more (Whole n) e again =
     let page = page_of (take n bytes) in
     let behind : drop n (bytes ++ more) ≡ drop n bytes ++ more = drop-append-le n bytes more s.inside in
     let after : stream (bytes ++ more) ≡ with_page page (stream (drop n bytes ++ more)) =
-      stream-Whole (bytes ++ more) n (whole_stays bytes more n e)
-      ∙ ap (λ p. with_page p (stream (drop n (bytes ++ more)))) (page_of-take-append bytes more n s.inside)
-      ∙ ap (λ l. with_page page (stream l)) behind in
+    stream-Whole (bytes ++ more) n (whole_stays bytes more n e)
+    ∙ ap (λ p. with_page p (stream (drop n (bytes ++ more)))) (page_of-take-append bytes more n s.inside)
+    ∙ ap (λ l. with_page page (stream l)) behind in
     let goes = with_page-GoesOn page (stream (drop n bytes)) (stream (drop n bytes ++ more)) (again (drop n bytes) (shorter bytes n e)) in
     subst (λ t. GoesOn (stream bytes) t) (sym after) (subst (λ s. GoesOn s (with_page page (stream (drop n bytes ++ more)))) (sym (stream-Whole bytes n e)) goes)
 

@@ -45,5 +45,5 @@ packet_page flags granule sequence packet = record {
   serial = 1;
   sequence = sequence;
   lacing = packet_lacing (length packet);
-  body = packet
+  body = packet;
 }
