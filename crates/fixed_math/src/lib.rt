@@ -1,0 +1,10 @@
+//! Exact fixed-point arithmetic of CELT (RFC 6716, section 4.3): whole square roots, rounding products,
+//! angles of 15360 to the circle, powers of two by 1024ths, the bit-exact cosine and tangent, and vectors
+//! of unit length. Every call is a whole-number formula; none takes memory.
+#![tactic(auto)]
+
+mod kernels;
+mod roots;
+
+pub use kernels::{mulr, noise, rounded_sum};
+pub use roots::{bit_length, isq, law_bit_length, law_root};
