@@ -1,2 +1,4 @@
+pub mod AngleLemmas
 pub mod RootLemmas
 pub mod RoundingLemmas
+pub mod TableLemmas

@@ -27,6 +27,15 @@ pub shr_within : (z : ℤ) (k m : ℕ) → unsigned_abs z ≤ m → unsigned_abs
 shr_within (pos a) k m h = omega (arith, div-le_self a (2 ^ k))
 shr_within (negsuc a) k m h = omega (arith, div-le_self a (2 ^ k))
 
+-- a shift of a number within m * 2^k is within m
+pub shr_scaled : (z : ℤ) (k m : ℕ) → unsigned_abs z ≤ m * 2 ^ k → unsigned_abs (int_shr z k) ≤ m
+shr_scaled (pos a) k m h =
+    let p : a < (m + 1) * 2 ^ k = omega (arith, pow_pos k) in
+    omega (arith, div_below a (2 ^ k) (m + 1) (pow_pos k) p)
+shr_scaled (negsuc a) k m h =
+    let p : a < m * 2 ^ k = omega arith in
+    omega (arith, div_below a (2 ^ k) m (pow_pos k) p)
+
 -- a quotient does not grow a number
 pub quotient_within : (a b : ℤ) (m : ℕ) → unsigned_abs a ≤ m → unsigned_abs (int_div a b) ≤ m
 quotient_within (pos a) (pos b) m h = omega (arith, div-le_self a b)

@@ -1,2 +1,4 @@
+pub mod Circle
+pub mod Quarter
 pub mod Root
 pub mod Rounding

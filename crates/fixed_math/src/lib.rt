@@ -3,8 +3,11 @@
 //! of unit length. Every call is a whole-number formula; none takes memory.
 #![tactic(auto)]
 
+mod angles;
+mod circle;
 mod kernels;
 mod roots;
 
+pub use angles::Trig;
 pub use kernels::{mulr, noise, rounded_sum};
 pub use roots::{bit_length, isq, law_bit_length, law_root};
