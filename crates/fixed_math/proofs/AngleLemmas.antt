@@ -1,12 +1,13 @@
 -- The circle: the step's literals, the sizes of its points and the mirror of its quarter, by evaluation, and
 -- the cases of cosine and sine.
-use Rattle.std.proofs.Common.{◌≡◌, ℕ, zero, suc, ◌+◌, ◌-◌, ◌*◌, ◌/◌, ◌^◌, ◌<◌, ◌≤◌, refl, sym, ap, subst, inl, inr, arith, ◌∙◌, cond, Bool, true, false, ◌&&◌, List, [], ◌∷◌, get_or}
+use Rattle.std.proofs.Common.{◌≡◌, ℕ, zero, suc, ◌+◌, ◌-◌, ◌*◌, ◌/◌, ◌%◌, ◌^◌, ◌<◌, ◌≤◌, refl, sym, ap, subst, inl, inr, arith, ◌∙◌, cond, Bool, true, false, ◌&&◌, List, [], ◌∷◌, get_or}
 use Rattle.std.specs.Prelude.{nat_le, ℤ, pos, negsuc, neg_ℤ, ◌+ℤ◌, ◌-ℤ◌, ◌*ℤ◌, ◌≤ℤ◌, unsigned_abs, FitsSigned}
 use Rattle.std.specs.Int.{int_shr, w64, w128, is_negative}
 use Rattle.std.specs.Cmp.Rules.{signed_items}
 use Rattle.std.specs.Ordering.{int_eq}
 use lib.Pointwise.{pointwise}
 use Rattle.std.proofs.lemmas.Int.{ints, unsigned_abs-mul, fits_signed_from_abs}
+use Rattle.std.proofs.Math.IntN.{neg_ℤ-neg_ℤ}
 use Rattle.std.proofs.lemmas.Bool.{cases_lt, cases_order, and_parts, leb-true, leb-false, le-leb, lt-leb, cond-true, cond-false}
 use Rattle.fixed_math.specs.declared.circle.Point.{Point}
 use Rattle.fixed_math.specs.Root.{root, root_by}
@@ -359,3 +360,129 @@ point-next p a e =
 pub quarter_entry : (p : Point) (a n : ℕ) → p ≡ point a → pos n ≡ narrowed p.x → pos n ≡ quarter_cosine a
 unfolding quarter_cosine
 quarter_entry p a n e h = h ∙ ap (λ q. narrowed q.x) e
+
+-- ---- symmetries of the whole circle
+
+quarter_end : quarter_cosine 3840 ≡ pos 0
+unfolding quarter_sine point point_by
+quarter_end = sym (quarter_mirror 0 (omega arith))
+
+quarter_start : quarter_cosine 0 ≡ pos 32768
+unfolding quarter_cosine point point_by
+quarter_start = refl
+
+pub cosine-zero : cosine 0 ≡ pos 32768
+cosine-zero = cosine_first 0 (omega arith) ∙ quarter_start
+
+pub sine-zero : sine 0 ≡ pos 0
+sine-zero = sine_first 0 (omega arith) ∙ quarter_end
+
+-- a quarter on, the sine is the cosine
+pub quarter_turn : (a : ℕ) → a < 15360 → sine ((a + 3840) % 15360) ≡ cosine a
+quarter_turn a h =
+    elim (cases_lt a 11520) [
+      | inl p ↦
+          let e : (a + 3840) % 15360 ≡ a + 3840 = omega arith in
+          let d : a + 3840 - 3840 ≡ a = omega arith in
+          ap sine e ∙ sym (sine_behind (a + 3840) (omega arith) (omega arith)) ∙ ap cosine d
+      | inr p ↦
+          let e : (a + 3840) % 15360 ≡ a - 11520 = omega arith in
+          let d : a - 11520 + 11520 ≡ a = omega arith in
+          ap sine e ∙ sym (sine_ahead (a - 11520) (omega arith)) ∙ ap cosine d
+    ]
+
+half_first : (a : ℕ) → a < 3840 → cosine (a + 7680) ≡ neg_ℤ (cosine a)
+half_first a h =
+    elim (cases_lt 0 a) [
+      | inl p ↦
+          let e : a + 7680 - 7680 ≡ a = omega arith in
+          cosine_third (a + 7680) (omega arith) (omega arith) ∙ ap (λ k. neg_ℤ (quarter_cosine k)) e ∙ sym (ap neg_ℤ (cosine_first a (omega arith)))
+      | inr p ↦
+          let e : 7680 - (a + 7680) ≡ a = omega arith in
+          cosine_second (a + 7680) (omega arith) (omega arith) ∙ ap (λ k. neg_ℤ (quarter_cosine k)) e ∙ sym (ap neg_ℤ (cosine_first a (omega arith)))
+    ]
+
+half_second : (a : ℕ) → 3840 ≤ a → a < 7680 → cosine (a + 7680) ≡ neg_ℤ (cosine a)
+half_second a h l =
+    elim (cases_lt 3840 a) [
+      | inl p ↦
+          let e : 15360 - (a + 7680) ≡ 7680 - a = omega arith in
+          cosine_fourth (a + 7680) (omega arith) ∙ ap quarter_cosine e ∙ sym (neg_ℤ-neg_ℤ (quarter_cosine (7680 - a))) ∙ sym (ap neg_ℤ (cosine_second a p (omega arith)))
+      | inr p ↦
+          let e : 15360 - (a + 7680) ≡ 3840 = omega arith in
+          let d : a ≡ 3840 = omega arith in
+          cosine_fourth (a + 7680) (omega arith) ∙ ap quarter_cosine e ∙ quarter_end ∙ sym (ap neg_ℤ (ap cosine d ∙ cosine_first 3840 (omega arith) ∙ quarter_end))
+    ]
+
+half_low : (a : ℕ) → a < 7680 → cosine (a + 7680) ≡ neg_ℤ (cosine a)
+half_low a h =
+    elim (cases_lt a 3840) [
+      | inl p ↦ half_first a p
+      | inr p ↦ half_second a p h
+    ]
+
+-- half of the circle on, the cosine has the other sign
+pub half_turn : (a : ℕ) → a < 15360 → cosine ((a + 7680) % 15360) ≡ neg_ℤ (cosine a)
+half_turn a h =
+    elim (cases_lt a 7680) [
+      | inl p ↦
+          let e : (a + 7680) % 15360 ≡ a + 7680 = omega arith in
+          ap cosine e ∙ half_low a p
+      | inr p ↦
+          let e : (a + 7680) % 15360 ≡ a - 7680 = omega arith in
+          let d : a - 7680 + 7680 ≡ a = omega arith in
+          ap cosine e ∙ sym (neg_ℤ-neg_ℤ (cosine (a - 7680))) ∙ sym (ap neg_ℤ (half_low (a - 7680) (omega arith))) ∙ ap (λ k. neg_ℤ (cosine k)) d
+    ]
+
+-- a quarter on, the cosine is the sine with the other sign
+pub quarter_turn_cosine : (a : ℕ) → a < 15360 → cosine ((a + 3840) % 15360) ≡ neg_ℤ (sine a)
+quarter_turn_cosine a h =
+    elim (cases_lt a 3840) [
+      | inl p ↦
+          let e : (a + 3840) % 15360 ≡ (a + 11520 + 7680) % 15360 = omega arith in
+          ap cosine e ∙ half_turn (a + 11520) (omega arith) ∙ ap neg_ℤ (sine_ahead a p)
+      | inr p ↦
+          let e : (a + 3840) % 15360 ≡ (a - 3840 + 7680) % 15360 = omega arith in
+          ap cosine e ∙ half_turn (a - 3840) (omega arith) ∙ ap neg_ℤ (sine_behind a p h)
+    ]
+
+-- backwards, the cosine is the same and the sine has the other sign
+pub mirror_cosine : (a : ℕ) → 0 < a → a < 15360 → cosine (15360 - a) ≡ cosine a
+mirror_cosine a h l =
+    elim (cases_lt 7680 a) [
+      | inl p ↦ first_half (15360 - a) (omega arith) ∙ cosine_folded_high a p
+      | inr p ↦ mirror_low a p
+    ]
+  where
+    mirror_low : (a : ℕ) → a ≤ 7680 → cosine (15360 - a) ≡ cosine a
+    mirror_low a p =
+        elim (cases_lt a 7680) [
+          | inl q ↦
+              let e : 15360 - (15360 - a) ≡ a = omega arith in
+              second_half (15360 - a) (omega arith) ∙ ap half_circle_cosine e ∙ cosine_folded_low a p
+          | inr q ↦
+              let e : 15360 - a ≡ a = omega arith in
+              ap cosine e
+        ]
+
+sine_end : sine 7680 ≡ pos 0
+sine_end = sine_second 7680 (omega arith) (omega arith) ∙ quarter_end
+
+pub mirror_sine : (a : ℕ) → 0 < a → a < 15360 → sine (15360 - a) ≡ neg_ℤ (sine a)
+mirror_sine a h l =
+    elim (cases_lt 7680 a) [
+      | inl p ↦ sine_first_half (15360 - a) (omega arith) ∙ sym (neg_ℤ-neg_ℤ (half_circle_sine (15360 - a))) ∙ sym (ap neg_ℤ (sine_second_half a p))
+      | inr p ↦ mirror_low a p
+    ]
+  where
+    mirror_low : (a : ℕ) → a ≤ 7680 → sine (15360 - a) ≡ neg_ℤ (sine a)
+    mirror_low a p =
+        elim (cases_lt a 7680) [
+          | inl q ↦
+              let e : 15360 - (15360 - a) ≡ a = omega arith in
+              sine_second_half (15360 - a) (omega arith) ∙ ap (λ k. neg_ℤ (half_circle_sine k)) e ∙ sym (ap neg_ℤ (sine_first_half a p))
+          | inr q ↦
+              let e : 15360 - a ≡ 7680 = omega arith in
+              let d : a ≡ 7680 = omega arith in
+              ap sine e ∙ sine_end ∙ sym (ap neg_ℤ (ap sine d ∙ sine_end))
+        ]

@@ -1,4 +1,6 @@
 pub mod Circle
+pub mod Octave
+pub mod Powers
 pub mod Quarter
 pub mod Root
 pub mod Rounding

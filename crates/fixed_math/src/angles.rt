@@ -1,6 +1,6 @@
 //! Cosines and sines (Q15) of angles, 15360 to the circle, as the transform (RFC 6716, section 4.3.7) and
 //! spreading (section 4.3.4.3) take them.
-ghost use Rattle.std.specs.Prelude.{◌≡◌, ℕ, ◌<◌, ◌≤◌, ◌^◌, unsigned_abs, pos};
+ghost use Rattle.std.specs.Prelude.{◌≡◌, ℕ, ◌+◌, ◌-◌, ◌%◌, ◌^◌, ◌<◌, ◌≤◌, unsigned_abs, pos, neg_ℤ};
 ghost use Rattle.fixed_math.specs.Circle.{cosine, sine, half_circle_cosine};
 ghost use Rattle.fixed_math.specs.Quarter.{IsQuarter};
 
@@ -66,3 +66,13 @@ impl Trig {
         }
     }
 }
+
+/// The symmetries of the circle: where it starts, a quarter on, and backwards.
+pub fn law_circle(a: u32)
+    requires { a < 15360 }
+    ensures start { (cosine 0 ≡ pos 32768) × (sine 0 ≡ pos 0) }
+    ensures quarter_cosine { cosine ((a + 3840) % 15360) ≡ neg_ℤ (sine a) }
+    ensures quarter_sine { sine ((a + 3840) % 15360) ≡ cosine a }
+    ensures back_cosine { 0 < a → cosine (15360 - a) ≡ cosine a }
+    ensures back_sine { 0 < a → sine (15360 - a) ≡ neg_ℤ (sine a) }
+{}

@@ -6,8 +6,10 @@
 mod angles;
 mod circle;
 mod kernels;
+mod powers;
 mod roots;
 
-pub use angles::Trig;
+pub use angles::{Trig, law_circle};
 pub use kernels::{mulr, noise, rounded_sum};
+pub use powers::{Exp, law_logarithm, law_mantissa};
 pub use roots::{bit_length, isq, law_bit_length, law_root};
