@@ -1,4 +1,5 @@
 pub mod AngleLemmas
+pub mod BitexactLemmas
 pub mod PowerLemmas
 pub mod RootLemmas
 pub mod RoundingLemmas

@@ -1,3 +1,4 @@
+pub mod Bitexact
 pub mod Circle
 pub mod Octave
 pub mod Powers
