@@ -4,3 +4,4 @@ pub mod PowerLemmas
 pub mod RootLemmas
 pub mod RoundingLemmas
 pub mod TableLemmas
+pub mod UnitLemmas

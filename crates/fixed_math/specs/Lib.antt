@@ -5,3 +5,4 @@ pub mod Powers
 pub mod Quarter
 pub mod Root
 pub mod Rounding
+pub mod Unit
