@@ -10,6 +10,7 @@ use crate::circle::{Point, cosine_of, next_point};
 const QUARTER: usize = 3841;
 
 /// The cosines of a quarter of the circle (Q15).
+#[derive(Drop)]
 pub struct Trig {
     cosines: [u16; QUARTER],
     ghost is_quarter: { IsQuarter cosines },

@@ -23,6 +23,7 @@ const PARTS: [u64; 11] = [
 ];
 
 /// The powers of two of an octave (Q60).
+#[derive(Drop)]
 pub struct Exp {
     powers: [u64; OCTAVE],
     ghost is_octave: { IsOctave powers },
