@@ -1,18 +1,18 @@
 -- The circle: the step's literals, the sizes of its points and the mirror of its quarter, by evaluation, and
 -- the cases of cosine and sine.
-use Rattle.std.proofs.Common.{◌≡◌, ℕ, zero, suc, ◌+◌, ◌-◌, ◌*◌, ◌/◌, ◌%◌, ◌^◌, ◌<◌, ◌≤◌, refl, sym, ap, subst, inl, inr, arith, ◌∙◌, cond, Bool, true, false, ◌&&◌, List, [], ◌∷◌, get_or}
+use Rattle.std.proofs.Common.{◌≡◌, ℕ, zero, suc, ◌+◌, ◌-◌, ◌*◌, ◌%◌, ◌^◌, ◌<◌, ◌≤◌, refl, sym, ap, subst, inl, inr, arith, ◌∙◌, Bool, true, false, ◌&&◌, List, [], ◌∷◌, get_or}
 use Rattle.std.specs.Prelude.{nat_le, ℤ, pos, negsuc, neg_ℤ, ◌+ℤ◌, ◌-ℤ◌, ◌*ℤ◌, ◌≤ℤ◌, unsigned_abs, FitsSigned}
-use Rattle.std.specs.Int.{int_shr, w64, w128, is_negative}
+use Rattle.std.specs.Int.{int_shr, w64, w128}
 use Rattle.std.specs.Cmp.Rules.{signed_items}
 use Rattle.std.specs.Ordering.{int_eq}
 use lib.Pointwise.{pointwise}
-use Rattle.std.proofs.lemmas.Int.{ints, unsigned_abs-mul, fits_signed_from_abs}
+use Rattle.std.proofs.lemmas.Int.{ints, fits_signed_from_abs}
 use Rattle.std.proofs.Math.IntN.{neg_ℤ-neg_ℤ}
-use Rattle.std.proofs.lemmas.Bool.{cases_lt, cases_order, and_parts, leb-true, leb-false, le-leb, lt-leb, cond-true, cond-false}
+use Rattle.std.proofs.lemmas.Bool.{cases_lt, and_parts, leb-true, le-leb, lt-leb, cond-true, cond-false}
 use Rattle.fixed_math.specs.declared.circle.Point.{Point}
 use Rattle.fixed_math.specs.Root.{root, root_by}
 use Rattle.fixed_math.specs.Circle.{halved, fifteenth_cosine, step_cosine, step_sine, turned_by, start, point_by, point, narrowed, quarter_cosine, quarter_sine, half_circle_cosine, half_circle_sine, cosine, sine}
-use Rattle.fixed_math.proofs.RoundingLemmas.{product_within, shr_within, shr_scaled}
+use Rattle.fixed_math.proofs.RoundingLemmas.{product_within, shr_scaled}
 
 -- ---- the step
 

@@ -1,5 +1,6 @@
 pub mod AngleLemmas
 pub mod BitexactLemmas
+pub mod IntLemmas
 pub mod PowerLemmas
 pub mod RootLemmas
 pub mod RoundingLemmas

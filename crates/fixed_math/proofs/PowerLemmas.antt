@@ -1,9 +1,9 @@
 -- Powers of two: the parts' literals and the octave's rise, by evaluation; sizes, and the logarithm.
-use Rattle.std.proofs.Common.{◌≡◌, ℕ, zero, suc, ◌+◌, ◌-◌, ◌*◌, ◌/◌, ◌%◌, ◌^◌, ◌<◌, ◌≤◌, refl, sym, ap, subst, inl, inr, arith, ◌∙◌, Bool, true, false, List, [], ◌∷◌, get_or}
+use Rattle.std.proofs.Common.{◌≡◌, ℕ, zero, suc, ◌+◌, ◌-◌, ◌*◌, ◌/◌, ◌%◌, ◌^◌, ◌<◌, ◌≤◌, refl, sym, ap, subst, inl, inr, arith, ◌∙◌, Bool, true, false, [], ◌∷◌, get_or}
 use Rattle.std.specs.Prelude.{nat_le, nat_lt, nat_eq}
-use Rattle.std.proofs.lemmas.Nat.{mul-le, mul-lt, div_below, le-div, pow_pos, pow-add, shr-shr, div-mul-add, mod-mul-add, leading_top, div-add-mod'}
-use Rattle.std.proofs.lemmas.Bool.{cases_lt, cases_order, cases_Bool, ltb-true, eqb-true, leb-true, leb-false, le-leb, lt-leb, cond-true, cond-false}
-use Rattle.std.proofs.Math.Nat.{mul_comm, mul_assoc, mul-div_cancel_left, pow-suc, mod-eq_of_lt, div-mul-le_self, pow-le-pow_right}
+use Rattle.std.proofs.lemmas.Nat.{mul-le, mul-lt, div_below, le-div, pow_pos, pow-add, shr-shr, div-mul-add, mod-mul-add, leading_top}
+use Rattle.std.proofs.lemmas.Bool.{cases_lt, cases_order, cases_Bool, ltb-true, eqb-true, leb-true, leb-false, le-leb, cond-true, cond-false}
+use Rattle.std.proofs.Math.Nat.{mul_assoc, mul-div_cancel_left, pow-suc, mod-eq_of_lt, div-mul-le_self, pow-le-pow_right}
 use Rattle.std.specs.Int.Count.{count_leading_zeros}
 use Rattle.fixed_math.specs.Root.{root, root_by}
 use Rattle.fixed_math.specs.Powers.{part, multiplied, power_by, fraction, mantissa, power, greatest, logarithm, IsLogarithm}

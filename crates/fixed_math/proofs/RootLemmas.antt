@@ -1,5 +1,5 @@
 -- Whole square roots: Newton's steps, the root by digits, and one root only. Bit lengths by powers of two.
-use Rattle.std.proofs.Common.{◌≡◌, ℕ, zero, suc, ◌+◌, ◌-◌, ◌*◌, ◌/◌, ◌^◌, ◌<◌, ◌≤◌, refl, sym, ap, subst, inl, inr, arith, ◌⊎◌, cond}
+use Rattle.std.proofs.Common.{◌≡◌, ℕ, zero, suc, ◌+◌, ◌-◌, ◌*◌, ◌/◌, ◌^◌, ◌<◌, ◌≤◌, refl, sym, ap, subst, inl, inr, arith}
 use Rattle.std.specs.Prelude.{nat_le}
 use Rattle.std.proofs.lemmas.Nat.{mul-le, div_below, pow_pos, pow-add, leading_length}
 use Rattle.std.proofs.lemmas.Bool.{cases_lt, cases_order, cond_both, leb-true, leb-false, le-leb, lt-leb}
@@ -76,6 +76,17 @@ root_small v x b h low =
     elim (cases_lt x b) [
       | inl p ↦ p
       | inr p ↦ let m : b * b ≤ x * x = mul-le b b x x p p in omega arith
+    ]
+
+-- a number whose square is within v is within its root
+pub root_least : (v r a : ℕ) → IsRoot v r → a * a ≤ v → a ≤ r
+root_least v r a i h =
+    elim (cases_lt r a) [
+      | inl p ↦
+          let m : (r + 1) * (r + 1) ≤ a * a = mul-le (r + 1) (r + 1) a a (omega arith) (omega arith) in
+          let b : v < (r + 1) * (r + 1) = i.high in
+          absurd (omega arith)
+      | inr p ↦ p
     ]
 
 pub root_no_greater : (v r s : ℕ) → IsRoot v r → IsRoot v s → r < s → r ≡ s

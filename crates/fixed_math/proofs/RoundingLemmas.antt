@@ -1,11 +1,11 @@
 -- Sizes of products, quotients and rounding shifts, for every signed number.
-use Rattle.std.proofs.Common.{◌≡◌, ℕ, zero, suc, ◌+◌, ◌-◌, ◌*◌, ◌/◌, ◌%◌, ◌^◌, ◌<◌, ◌≤◌, refl, sym, ap, subst, inl, inr, arith}
-use Rattle.std.specs.Prelude.{ℤ, pos, negsuc, neg_ℤ, ◌+ℤ◌, ◌-ℤ◌, ◌*ℤ◌, ◌≤ℤ◌, ◌<ℤ◌, unsigned_abs, FitsSigned, int_div}
+use Rattle.std.proofs.Common.{◌≡◌, ℕ, zero, suc, ◌+◌, ◌-◌, ◌*◌, ◌/◌, ◌%◌, ◌^◌, ◌<◌, ◌≤◌, sym, subst, inl, inr, arith}
+use Rattle.std.specs.Prelude.{ℤ, pos, negsuc, ◌+ℤ◌, ◌*ℤ◌, ◌≤ℤ◌, ◌<ℤ◌, unsigned_abs, FitsSigned, int_div}
 use Rattle.std.specs.Int.{int_shr, w64, cast_signed as to_z}
-use Rattle.std.proofs.lemmas.Nat.{mul-le, div_below, pow_pos, pow-add, pow_below, le-div, one_shl}
+use Rattle.std.proofs.lemmas.Nat.{mul-le, div_below, pow_pos, one_shl}
 use Rattle.std.proofs.lemmas.Int.{ints, unsigned_abs-mul, fits_signed_from_abs, to_z_pos}
-use Rattle.std.proofs.Math.IntN.{pos-*ℤ-negsuc, negsuc-*ℤ-pos, pos-*ℤ-pos, *ℤ_comm, neg_ℤ-neg_ℤ}
-use Rattle.std.proofs.Math.Nat.{lt-mul-div-succ, div-mul-le_self, mul-div-le, pow-suc, pow-le-pow_right, div-le_self}
+use Rattle.std.proofs.Math.IntN.{pos-*ℤ-negsuc}
+use Rattle.std.proofs.Math.Nat.{lt-mul-div-succ, mul-div-le, pow-suc, pow-le-pow_right, div-le_self}
 use Rattle.std.proofs.lemmas.Bool.{cases_lt}
 use Rattle.fixed_math.specs.Rounding.{rounded}
 

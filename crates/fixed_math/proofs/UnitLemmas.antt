@@ -1,18 +1,18 @@
 -- Vectors of unit length: the sum of squares, the size of the root, and the product by a reciprocal, which is
 -- the truncated quotient.
-use Rattle.std.proofs.Common.{◌≡◌, ℕ, zero, suc, ◌+◌, ◌-◌, ◌*◌, ◌/◌, ◌%◌, ◌^◌, ◌<◌, ◌≤◌, refl, sym, ap, subst, inl, inr, arith, ◌∙◌, List, [], ◌∷◌, get_or, length, cond}
-use Rattle.std.specs.Prelude.{ℤ, pos, negsuc, neg_ℤ, ◌+ℤ◌, ◌-ℤ◌, ◌*ℤ◌, ◌≤ℤ◌, unsigned_abs, int_div, All, map, sum_by, FitsSigned, nat_eq}
+use Rattle.std.proofs.Common.{◌≡◌, ℕ, zero, suc, ◌+◌, ◌-◌, ◌*◌, ◌/◌, ◌%◌, ◌^◌, ◌<◌, ◌≤◌, refl, sym, ap, subst, inl, inr, arith, ◌∙◌, List, [], ◌∷◌, get_or, length}
+use Rattle.std.specs.Prelude.{ℤ, pos, negsuc, neg_ℤ, ◌+ℤ◌, ◌*ℤ◌, ◌≤ℤ◌, unsigned_abs, int_div, All, map, FitsSigned, nat_eq}
 use Rattle.std.specs.Int.{int_shr, w64, w128, cast_unsigned as of_z, cast_signed as to_z}
-use Rattle.std.proofs.lemmas.Int.{ints, unsigned_abs-mul, fits_signed_from_abs, to_z_pos}
-use Rattle.std.proofs.lemmas.Nat.{mul-le, div_below, pow_pos}
+use Rattle.std.proofs.lemmas.Int.{ints, fits_signed_from_abs, to_z_pos}
+use Rattle.std.proofs.lemmas.Nat.{mul-le, div_below}
 use Rattle.std.proofs.lemmas.Bool.{cases_lt, ne_eqb, cond-false, cond-true, eq-eqb}
 use Rattle.std.proofs.lemmas.List.Sums.{sum_by-cons, sum_by-le, get_or-le-sum_by}
 use Rattle.std.proofs.lemmas.List.Elements.{All-head, All-tail, All-weaker, All-map}
 use Rattle.std.proofs.Math.IntN.{negsuc-*ℤ-pos}
-use Rattle.std.proofs.Math.Nat.{mul_comm, mul_assoc, lt-mul-div-succ, div-mul-le_self, mod-eq_of_lt, zero-div}
+use Rattle.std.proofs.Math.Nat.{mul_assoc, lt-mul-div-succ, div-mul-le_self, mod-eq_of_lt, zero-div}
 use Rattle.fixed_math.specs.Root.{IsRoot, root}
-use Rattle.fixed_math.specs.Unit.{square, energy, norm, over, unit_of, reciprocal_of, by_reciprocal, carry}
-use Rattle.fixed_math.proofs.RootLemmas.{root-is, root_small}
+use Rattle.fixed_math.specs.Unit.{square, energy, norm, over, unit_of, reciprocal_of, by_reciprocal}
+use Rattle.fixed_math.proofs.RootLemmas.{root-is, root_small, root_least}
 use Rattle.fixed_math.proofs.RoundingLemmas.{product_within}
 
 -- ---- the sum of squares
@@ -60,17 +60,6 @@ unfolding unit_of
 unit-some g xs h = sym (cond-false (nat_eq (energy xs) 0) (map (λ x. pos 0) xs) (map (over g (norm xs)) xs) (ne_eqb (energy xs) 0 (λ e. omega arith)))
 
 -- ---- the length
-
--- a number whose square is within v is within its root
-pub root_least : (v r a : ℕ) → IsRoot v r → a * a ≤ v → a ≤ r
-root_least v r a i h =
-    elim (cases_lt r a) [
-      | inl p ↦
-          let m : (r + 1) * (r + 1) ≤ a * a = mul-le (r + 1) (r + 1) a a (omega arith) (omega arith) in
-          let b : v < (r + 1) * (r + 1) = i.high in
-          absurd (omega arith)
-      | inr p ↦ p
-    ]
 
 pub norm-is : (xs : List ℤ) → energy xs < 2 ^ 88 → IsRoot (energy xs * 2 ^ 24) (norm xs)
 unfolding norm

@@ -1,5 +1,5 @@
 -- Powers of two by steps of 2^(1/1024), and logarithms.
-use Rattle.std.specs.Prelude.{◌≡◌, ℕ, zero, suc, ◌+◌, ◌-◌, ◌*◌, ◌/◌, ◌%◌, ◌^◌, ◌<◌, ◌≤◌, nat_le, Bool, if◌then◌else◌}
+use Rattle.std.specs.Prelude.{ℕ, zero, suc, ◌*◌, ◌/◌, ◌%◌, ◌^◌, ◌<◌, ◌≤◌, nat_le, Bool, if◌then◌else◌}
 use Rattle.fixed_math.specs.Root.{root}
 
 -- 2 to the power 1 / 2^k, in units of 2^-60: each is the root of the one before
@@ -25,7 +25,7 @@ fraction f = power_by part 10 f
 unfoldable pub mantissa : ℕ → ℕ
 mantissa f = fraction f / 2 ^ 30
 
--- 2 to the power e / 1024, rounded down
+-- 2 to the power e / 1024, rounded down: the fraction of the place in the octave, shifted right by 60 less the octave
 unfoldable pub power : ℕ → ℕ
 power e = fraction (e % 1024) * 2 ^ (e / 1024) / 2 ^ 60
 

@@ -17,8 +17,10 @@ pub struct Trig {
 }
 
 impl Trig {
-    /// Makes the table.
-    pub fn new() -> Trig {
+    /// Makes the table: the cosines of the angles from 0 to a quarter of the circle.
+    pub fn new() -> Trig
+        ensures { IsQuarter result.cosines }
+    {
         let mut cosines = [0u16; QUARTER];
         let mut p = Point { x: 1 << 60, y: 0 };
         for a in 0..QUARTER {

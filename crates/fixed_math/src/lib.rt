@@ -9,6 +9,8 @@ mod circle;
 mod kernels;
 mod powers;
 mod roots;
+#[cfg(test)]
+mod tests;
 mod units;
 
 pub use angles::{Trig, law_circle};

@@ -30,8 +30,10 @@ pub struct Exp {
 }
 
 impl Exp {
-    /// Makes the table.
-    pub fn new() -> Exp {
+    /// Makes the table: the powers of two of an octave.
+    pub fn new() -> Exp
+        ensures { IsOctave result.powers }
+    {
         let mut powers = [0u64; OCTAVE];
         for f in 0..OCTAVE {
             powers[f] = power_of(f as u32);

@@ -1,5 +1,4 @@
-use Rattle.std.proofs.Common.{◌≤◌, ◌^◌, arith, refl}
-use Rattle.std.specs.Int.{w64, w128}
+use Rattle.std.proofs.Common.{arith}
 use Rattle.std.proofs.lemmas.Int.{to_z-of_z}
 use Rattle.fixed_math.proofs.AngleLemmas.{turn_steps, step_cosine-is, step_sine-is}
 use Rattle.fixed_math.proofs.circle.next_point.Goals as goal

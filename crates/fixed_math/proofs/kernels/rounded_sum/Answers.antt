@@ -1,5 +1,3 @@
-use Rattle.std.proofs.Common.{ℤ, pos, ◌*ℤ◌, ◌≡◌, refl}
-use Rattle.std.specs.Int.{w64}
 use Rattle.std.proofs.lemmas.Int.{to_z-of_z}
 use Rattle.fixed_math.proofs.RoundingLemmas.{sum_steps}
 use Rattle.fixed_math.proofs.kernels.rounded_sum.Goals as goal

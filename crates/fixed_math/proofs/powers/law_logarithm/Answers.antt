@@ -1,4 +1,4 @@
-use Rattle.std.proofs.Common.{◌<◌, ◌≤◌, arith}
+use Rattle.std.proofs.Common.{arith}
 use Rattle.fixed_math.proofs.PowerLemmas.{logarithm-is, logarithm-rises}
 use Rattle.fixed_math.proofs.powers.law_logarithm.Goals as goal
 

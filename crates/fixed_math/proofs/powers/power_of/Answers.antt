@@ -1,5 +1,5 @@
-use Rattle.std.proofs.Common.{◌≡◌, ℕ, ◌+◌, ◌-◌, ◌/◌, ◌%◌, ◌^◌, ◌<◌, ◌≤◌, arith, ap, ◌∙◌, subst, sym}
-use Rattle.fixed_math.specs.Powers.{part, power_by, multiplied, fraction}
+use Rattle.std.proofs.Common.{◌≡◌, ℕ, ◌+◌, ◌-◌, ◌/◌, ◌%◌, ◌^◌, ◌<◌, arith, ap, ◌∙◌, subst, sym}
+use Rattle.fixed_math.specs.Powers.{part, power_by, multiplied}
 use Rattle.fixed_math.proofs.PowerLemmas.{part_literal, part_entry, power_start, power_step, power_end, prefix_small}
 use Rattle.fixed_math.proofs.powers.power_of.Goals as goal
 

@@ -1,4 +1,4 @@
-use Rattle.std.proofs.Common.{◌≡◌, ℕ, ◌-◌, ◌/◌, ◌^◌, ◌<◌}
+use Rattle.std.proofs.Common.{◌≡◌, ◌-◌, ◌/◌, ◌^◌, ◌<◌}
 use Rattle.fixed_math.specs.Powers.{part, power_by}
 use Rattle.fixed_math.proofs.powers.power_of.Given as goal
 

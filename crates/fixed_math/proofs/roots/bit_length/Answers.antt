@@ -1,4 +1,4 @@
-use Rattle.std.proofs.Common.{◌<◌, arith}
+use Rattle.std.proofs.Common.{arith}
 use Rattle.fixed_math.proofs.RootLemmas.{bit_length-leading}
 use Rattle.fixed_math.proofs.roots.bit_length.Goals as goal
 

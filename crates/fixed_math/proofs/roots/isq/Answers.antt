@@ -1,4 +1,4 @@
-use Rattle.std.proofs.Common.{◌<◌, ◌≤◌, arith}
+use Rattle.std.proofs.Common.{arith}
 use Rattle.fixed_math.proofs.RootLemmas.{root_from}
 use Rattle.fixed_math.proofs.roots.isq.Goals as goal
 

@@ -1,4 +1,4 @@
-use Rattle.std.proofs.Common.{◌<◌, arith}
+use Rattle.std.proofs.Common.{arith}
 use Rattle.fixed_math.proofs.RootLemmas.{root-is}
 use Rattle.fixed_math.proofs.roots.law_root.Goals as goal
 

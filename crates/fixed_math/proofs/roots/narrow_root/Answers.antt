@@ -1,7 +1,7 @@
 use Rattle.std.proofs.Common.{◌≡◌, ℕ, ◌+◌, ◌-◌, ◌*◌, ◌/◌, ◌%◌, ◌^◌, ◌<◌, ◌≤◌, arith, refl}
 use Rattle.std.specs.Int.Count.{count_leading_zeros}
 use Rattle.std.proofs.lemmas.Nat.{one_shl, pow_pos}
-use Rattle.fixed_math.proofs.RootLemmas.{start_small, start_above, newton_quotient, newton_above, newton_done, root_positive, root_small}
+use Rattle.fixed_math.proofs.RootLemmas.{start_small, start_above, newton_quotient, newton_above, root_positive}
 use Rattle.fixed_math.proofs.roots.narrow_root.Goals as goal
 
 pub overflow_add-y : goal.overflow_add-y

@@ -1,4 +1,4 @@
-use Rattle.std.proofs.Common.{◌≤◌, ◌+◌}
+use Rattle.std.proofs.Common.{◌≤◌}
 use Rattle.std.specs.Prelude.{pos, ◌+ℤ◌, All, take}
 use Rattle.std.specs.Int.{w64, cast_unsigned}
 use Rattle.fixed_math.proofs.units.are_small.Given as goal

@@ -1,5 +1,5 @@
-use Rattle.std.proofs.Common.{◌≡◌, ℕ, ◌+◌, ◌*◌, ◌<◌, ◌≤◌, ◌^◌, ◌++◌, arith, get_or, length, List, ap, ◌∙◌, rules}
-use Rattle.std.specs.Prelude.{ℤ, pos, ◌*ℤ◌, int_div, map, take, drop, slice_set, FitsSigned, unsigned_abs}
+use Rattle.std.proofs.Common.{◌≡◌, ℕ, ◌<◌, ◌++◌, arith, get_or, length, List, ap, ◌∙◌, rules}
+use Rattle.std.specs.Prelude.{ℤ, pos, map, take, drop, slice_set, FitsSigned, unsigned_abs}
 use Rattle.std.specs.Int.{w64}
 use Rattle.std.proofs.lemmas.Int.{to_z-of_z}
 use Rattle.std.proofs.lemmas.List.{get_or_default}

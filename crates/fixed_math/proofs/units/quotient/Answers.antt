@@ -1,6 +1,5 @@
-use Rattle.std.proofs.Common.{◌≡◌, ℕ, ◌<◌, ◌≤◌, ◌^◌, arith}
-use Rattle.std.specs.Prelude.{ℤ, pos, ◌*ℤ◌, int_div, FitsSigned, unsigned_abs}
-use Rattle.std.specs.Int.{w64, w128}
+use Rattle.std.proofs.Common.{◌≡◌, arith}
+use Rattle.std.specs.Prelude.{unsigned_abs}
 use Rattle.std.proofs.lemmas.Int.{to_z-of_z}
 use Rattle.fixed_math.proofs.UnitLemmas.{quotient_steps}
 use Rattle.fixed_math.proofs.units.quotient.Goals as goal

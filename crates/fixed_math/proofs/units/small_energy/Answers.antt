@@ -1,10 +1,10 @@
-use Rattle.std.proofs.Common.{◌≡◌, ℕ, ◌+◌, ◌*◌, ◌<◌, ◌≤◌, ◌^◌, arith, get_or, length, List}
+use Rattle.std.proofs.Common.{◌≡◌, ℕ, ◌+◌, ◌*◌, ◌<◌, ◌≤◌, ◌^◌, arith, get_or, List}
 use Rattle.std.specs.Prelude.{ℤ, pos, take, sum_by, FitsSigned, unsigned_abs}
 use Rattle.std.specs.Int.{w64}
 use Rattle.std.proofs.lemmas.Int.{to_z-of_z, fits_signed_from_abs}
 use Rattle.std.proofs.lemmas.List.Sums.{sum_by_more_le}
 use Rattle.fixed_math.specs.Unit.{square, energy}
-use Rattle.fixed_math.proofs.UnitLemmas.{energy_within, below_within}
+use Rattle.fixed_math.proofs.UnitLemmas.{energy_within}
 use Rattle.fixed_math.proofs.units.small_energy.Goals as goal
 
 pub overflow_add-sum : goal.overflow_add-sum

@@ -1,4 +1,4 @@
-use Rattle.std.proofs.Common.{◌≡◌, ℕ, ◌<◌, ◌≤◌, arith, ◌∙◌, rules, length-set}
+use Rattle.std.proofs.Common.{◌≡◌, arith, ◌∙◌, rules, length-set}
 use Rattle.std.specs.Prelude.{pos}
 use Rattle.fixed_math.specs.Circle.{quarter_cosine}
 use Rattle.fixed_math.proofs.AngleLemmas.{point-start, small_here, point-next, quarter_entry}

@@ -1,4 +1,4 @@
-use Rattle.std.proofs.Common.{◌≡◌, ℕ, ◌<◌, ◌≤◌, ◌^◌, arith}
+use Rattle.std.proofs.Common.{arith}
 use Rattle.fixed_math.proofs.PowerLemmas.{fraction-first}
 use Rattle.fixed_math.proofs.powers.Exp.last_below.Goals as goal
 

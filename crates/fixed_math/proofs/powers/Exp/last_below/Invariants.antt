@@ -1,4 +1,4 @@
-use Rattle.std.proofs.Common.{◌≡◌, ℕ, ◌+◌, ◌^◌, ◌<◌, ◌≤◌}
+use Rattle.std.proofs.Common.{◌+◌, ◌^◌, ◌<◌, ◌≤◌}
 use Rattle.fixed_math.specs.Powers.{fraction}
 use Rattle.fixed_math.proofs.powers.Exp.last_below.Given as goal
 

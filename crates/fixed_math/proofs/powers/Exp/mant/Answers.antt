@@ -1,4 +1,4 @@
-use Rattle.std.proofs.Common.{◌≡◌, ℕ, ◌/◌, ◌<◌, ◌≤◌, ◌^◌, arith, get_or, ap, ◌∙◌}
+use Rattle.std.proofs.Common.{◌≡◌, ◌/◌, ◌^◌, arith, get_or, ap, ◌∙◌}
 use Rattle.fixed_math.specs.Powers.{mantissa}
 use Rattle.fixed_math.proofs.PowerLemmas.{mantissa-fraction, mantissa_low, mantissa_high}
 use Rattle.fixed_math.proofs.powers.Exp.mant.Goals as goal
