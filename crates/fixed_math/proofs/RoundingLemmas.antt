@@ -1,5 +1,5 @@
 -- Sizes of products, quotients and rounding shifts, for every signed number.
-use Rattle.std.proofs.Common.{◌≡◌, ℕ, zero, suc, ◌+◌, ◌-◌, ◌*◌, ◌/◌, ◌%◌, ◌^◌, ◌<◌, ◌≤◌, sym, subst, inl, inr, arith}
+use Rattle.std.proofs.Common.{◌≡◌, ℕ, zero, suc, ◌+◌, ◌-◌, ◌*◌, ◌/◌, ◌%◌, ◌^◌, ◌<◌, ◌≤◌, sym, subst, inl, inr, arith, ap, ◌∙◌}
 use Rattle.std.specs.Prelude.{ℤ, pos, negsuc, ◌+ℤ◌, ◌*ℤ◌, ◌≤ℤ◌, ◌<ℤ◌, unsigned_abs, FitsSigned, int_div}
 use Rattle.std.specs.Int.{int_shr, w64, cast_signed as to_z}
 use Rattle.std.proofs.lemmas.Nat.{mul-le, div_below, pow_pos, one_shl}
@@ -42,6 +42,20 @@ quotient_within (pos a) (pos b) m h = omega (arith, div-le_self a b)
 quotient_within (pos a) (negsuc b) m h = omega (arith, ints, div-le_self a (suc b))
 quotient_within (negsuc a) (pos b) m h = omega (arith, ints, div-le_self (suc a) b)
 quotient_within (negsuc a) (negsuc b) m h = omega (arith, div-le_self (suc a) (suc b))
+
+-- a rounded quotient is the nearest whole number, the greater one of two
+pub rounded_low : (z : ℤ) (s : ℕ) → (pos (2 ^ s) *ℤ rounded z s) ≤ℤ (z +ℤ pos (2 ^ (s - 1)))
+rounded_low z s = shr_low (z +ℤ pos (2 ^ (s - 1))) s
+
+pub rounded_high : (z : ℤ) (s : ℕ) → 1 ≤ s → z <ℤ (pos (2 ^ s) *ℤ rounded z s +ℤ pos (2 ^ (s - 1)))
+rounded_high z s h =
+    let e : suc (s - 1) ≡ s = omega arith in
+    let d : 2 ^ suc (s - 1) ≡ 2 ^ (s - 1) * 2 = pow-suc 2 (s - 1) in
+    let f : 2 ^ s ≡ 2 ^ (s - 1) * 2 = sym (ap (λ k. 2 ^ k) e) ∙ d in
+    nearest z (pos (2 ^ s) *ℤ rounded z s) (2 ^ s) (2 ^ (s - 1)) f (shr_high (z +ℤ pos (2 ^ (s - 1))) s)
+  where
+    nearest : (z r : ℤ) (p h : ℕ) → p ≡ h * 2 → (z +ℤ pos h) <ℤ (r +ℤ pos p) → z <ℤ (r +ℤ pos h)
+    nearest z r p h e l = omega (arith, ints)
 
 round_cases : (z r : ℤ) (p h m : ℕ) → h + h ≡ p → 0 < h → unsigned_abs z ≤ m * p → (pos p *ℤ r) ≤ℤ (z +ℤ pos h) → (z +ℤ pos h) <ℤ (pos p *ℤ r +ℤ pos p) → unsigned_abs r ≤ m
 round_cases z (pos k) p h m e t w low high =

@@ -1,6 +1,6 @@
 //! The small kernels that the signal crates share: a step of the noise (RFC 6716, section 4.3.4),
 //! products that are rounded to the nearest whole number, and the turn of a pair.
-ghost use Rattle.std.specs.Prelude.{◌≡◌, ℕ, ◌+◌, ◌-◌, ◌*◌, ◌^◌, ◌<◌, ◌≤◌, pos, ◌+ℤ◌, ◌*ℤ◌, unsigned_abs};
+ghost use Rattle.std.specs.Prelude.{◌≡◌, ℕ, ◌+◌, ◌-◌, ◌*◌, ◌^◌, ◌<◌, ◌≤◌, pos, ◌+ℤ◌, ◌*ℤ◌, ◌≤ℤ◌, ◌<ℤ◌, unsigned_abs};
 ghost use Rattle.fixed_math.specs.Rounding.{rounded, noise_after};
 
 /// The noise's next state after `seed`.
@@ -28,3 +28,10 @@ pub fn rounded_sum(x: i64, c: i64, y: i64, s: i64) -> i64
 {
     (x * c + y * s + (1 << 14)) >> 15
 }
+
+/// `rounded` is the whole number nearest to `z / 2^s`, the greater one of two.
+pub fn law_rounded(z: i64, s: u32)
+    requires { 1 ≤ s }
+    ensures low { (pos (2 ^ s) *ℤ rounded z s) ≤ℤ (z +ℤ pos (2 ^ (s - 1))) }
+    ensures high { z <ℤ (pos (2 ^ s) *ℤ rounded z s +ℤ pos (2 ^ (s - 1))) }
+{}

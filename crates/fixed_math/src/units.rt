@@ -20,6 +20,7 @@ pub fn unit(v: &mut [i64], g: i64)
         return;
     }
     let length = isq(energy << 24);
+    // Here the product of an item and the length is below 2^48, so that one reciprocal gives every quotient.
     if energy < 0x10_0000_0000 {
         multiply_all(v, reciprocal(g as u64, length));
     } else {
