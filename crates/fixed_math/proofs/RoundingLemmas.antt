@@ -123,8 +123,14 @@ sum_steps x c y s p q =
     }
 
 -- a number of a turned pair is at most twice the greater of the pair
-pub turn_within : (x c y s : ℤ) (m : ℕ) → unsigned_abs x ≤ m → unsigned_abs y ≤ m → unsigned_abs c ≤ 2 ^ 15 → unsigned_abs s ≤ 2 ^ 15 → unsigned_abs (rounded (x *ℤ c +ℤ y *ℤ s) 15) ≤ m + m
+pub turn_within : (x c y s : ℤ) (m : ℕ) → unsigned_abs x ≤ m → unsigned_abs y ≤ m → unsigned_abs c ≤ 2 ^ 15 → unsigned_abs s ≤ 2 ^ 15 → unsigned_abs (rounded (x *ℤ c +ℤ y *ℤ s) 15) ≤ 2 * m
 turn_within x c y s m p q u v =
     let a : unsigned_abs (x *ℤ c) ≤ m * 2 ^ 15 = product_within x c m (2 ^ 15) p u in
     let b : unsigned_abs (y *ℤ s) ≤ m * 2 ^ 15 = product_within y s m (2 ^ 15) q v in
-    round_within (x *ℤ c +ℤ y *ℤ s) 15 (m + m) (omega arith) (omega (arith, ints))
+    round_within (x *ℤ c +ℤ y *ℤ s) 15 (2 * m) (omega arith) (omega (arith, ints))
+
+-- a rounded product of bounded numbers
+pub product_rounded : (a b : ℤ) (s m n k : ℕ) → 1 ≤ s → unsigned_abs a ≤ m → unsigned_abs b ≤ n → m * n ≤ k * 2 ^ s → unsigned_abs (rounded (a *ℤ b) s) ≤ k
+product_rounded a b s m n k h p q r =
+    let d : unsigned_abs (a *ℤ b) ≤ m * n = product_within a b m n p q in
+    round_within (a *ℤ b) s k h (omega arith)

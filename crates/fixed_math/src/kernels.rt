@@ -14,7 +14,8 @@ pub fn noise(seed: u32) -> u32
 pub fn mulr(a: i64, b: i64, s: u32) -> i64
     requires shift { (1 ≤ s) × (s ≤ 62) }
     requires product { unsigned_abs (a *ℤ b) < 2 ^ 62 }
-    ensures { result ≡ rounded (a *ℤ b) s }
+    ensures value { result ≡ rounded (a *ℤ b) s }
+    ensures size { (m n k : ℕ) → unsigned_abs a ≤ m → unsigned_abs b ≤ n → m * n ≤ k * 2 ^ s → unsigned_abs result ≤ k }
 {
     (a * b + (1 << (s - 1))) >> s
 }
@@ -24,7 +25,8 @@ pub fn mulr(a: i64, b: i64, s: u32) -> i64
 pub fn rounded_sum(x: i64, c: i64, y: i64, s: i64) -> i64
     requires first { unsigned_abs (x *ℤ c) ≤ 2 ^ 61 }
     requires second { unsigned_abs (y *ℤ s) ≤ 2 ^ 61 }
-    ensures { result ≡ rounded (x *ℤ c +ℤ y *ℤ s) 15 }
+    ensures value { result ≡ rounded (x *ℤ c +ℤ y *ℤ s) 15 }
+    ensures growth { (m : ℕ) → unsigned_abs x ≤ m → unsigned_abs y ≤ m → unsigned_abs c ≤ 2 ^ 15 → unsigned_abs s ≤ 2 ^ 15 → unsigned_abs result ≤ 2 * m }
 {
     (x * c + y * s + (1 << 14)) >> 15
 }
