@@ -7,9 +7,8 @@ use celt_base::standard::{StdSink, StdSource};
 use celt_base::status::Status;
 use celt_cli::program::run;
 use std::alloc::Global;
-use std::env;
-use std::io;
 use std::process::ExitCode;
+use std::{env, io};
 
 /// The words after the program's name.
 fn words(rt: &(impl env::Env + AllocGlobal)) -> io::Result<Vec<String>> {

@@ -1,19 +1,19 @@
 -- From the first bytes of an input to the whole input.
-use Rattle.std.proofs.Common.{◌≡◌, ℕ, ◌+◌, ◌<◌, ◌≤◌, Bool, true, false, List, [], ◌∷◌, ◌++◌, length, take, drop, replicate, refl, sym, ◌∙◌, ap, subst, arith, length-append, append-nil, Option, Some, None, nat_lt, Result, Ok, Err, Vec, IfOk, IfSome, ◌⊎◌, inl, inr}
+use Rattle.std.proofs.Common.{◌≡◌, ℕ, ◌+◌, ◌<◌, ◌≤◌, Bool, true, false, List, [], ◌++◌, length, take, drop, replicate, refl, sym, ◌∙◌, ap, subst, arith, length-append, append-nil, Option, Some, None, nat_lt, Result, Ok, Err, Vec, IfOk, IfSome, ◌⊎◌, inl, inr}
 use Rattle.std.specs.Io.KnownBytes.{Appends, Consumes, IsAtEnd}
 use Rattle.std.proofs.Math.ListN.{length-replicate}
 use Rattle.std.proofs.lemmas.List.{take-append-drop, take-replicate, take-append-le, take_all}
-use Rattle.std.proofs.lemmas.Bool.{ltb-false, lt-ltb, le-ltb, cases_lt, cases_Bool}
+use Rattle.std.proofs.lemmas.Bool.{ltb-false, lt-ltb, cases_lt}
 use Rattle.std.specs.declared.alloc.Global.{Global}
 use Rattle.celt_base.specs.declared.status.Fault.{Fault}
 use Rattle.celt_base.specs.declared.status.Status.{Status}
 use Rattle.celt_base.specs.declared.status.Status.TheVariants as statuses
 use Rattle.celt_base.specs.Outside.{AppendsFront}
-use Rattle.celt_base.proofs.Causes.{longer_front, no_front}
+use Rattle.celt_base.proofs.Causes.{longer_front}
 use Rattle.celt_cli.specs.declared.reading.ReadError.{ReadError}
-use Rattle.celt_cli.specs.Decoding.{full, running, fault_of}
+use Rattle.celt_cli.specs.Decoding.{full, fault_of}
 use Rattle.celt_cli.specs.Silences.{IsSilence}
-use Rattle.celt_cli.specs.Outcomes.{is_end_name, ended_status, cut_status_by, cut_status, status_by, wanted, Answers, Writes, WritesFirst}
+use Rattle.celt_cli.specs.Outcomes.{is_end_name, cut_status_by, cut_status, status_by, wanted, Answers, Writes, WritesFirst}
 use Rattle.celt_cli.proofs.Prefixes.{full-append, stays}
 
 -- as many zero bytes

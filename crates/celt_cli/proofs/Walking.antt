@@ -1,5 +1,5 @@
 -- How far the pages of some bytes were walked.
-use Rattle.std.proofs.Common.{◌≡◌, ℕ, zero, suc, ◌+◌, ◌-◌, ◌*◌, ◌<◌, ◌≤◌, Bool, true, false, List, [], ◌∷◌, ◌++◌, length, take, drop, replicate, refl, sym, ◌∙◌, ap, subst, arith, append_assoc, append-nil, length-append, length-drop, Option, Some, None, nat_lt}
+use Rattle.std.proofs.Common.{◌≡◌, ℕ, ◌+◌, ◌-◌, ◌<◌, ◌≤◌, Bool, true, false, List, [], ◌∷◌, ◌++◌, length, take, drop, refl, sym, ◌∙◌, ap, subst, arith, append_assoc, append-nil, length-append, length-drop, Option, Some, None, nat_lt}
 use Rattle.std.specs.Prelude.{if◌then◌else◌, not, ◌==◌}
 use Rattle.std.specs.List.{flat_map}
 use Rattle.std.specs.Io.KnownBytes.{Appends}
@@ -10,13 +10,12 @@ use Rattle.celt_base.specs.declared.status.Fault.{Fault}
 use Rattle.celt_base.specs.declared.status.FaultName.TheVariants as names
 use Rattle.celt_base.specs.Outside.{AppendsFront}
 use Rattle.celt_base.proofs.Causes.{then_front, longer_front}
-use Rattle.ogg_pages.specs.declared.page.Verdict.{Verdict}
 use Rattle.ogg_pages.specs.declared.page.Verdict.TheVariants.{Whole, Need}
 use Rattle.ogg_pages.specs.declared.page.Verdict.TheVariants as verdicts
 use Rattle.ogg_pages.specs.declared.page.PageFault.{PageFault}
 use Rattle.ogg_pages.specs.Verdicts.{verdict}
 use Rattle.ogg_pages.specs.Fields.{Page, page_of}
-use Rattle.ogg_pages.specs.Stream.{Stream, Ending, Sound, Cut, ending_by, ending_of, no_page, with_page, stream}
+use Rattle.ogg_pages.specs.Stream.{Stream, Sound, Cut, ending_by, ending_of, no_page, with_page, stream}
 use Rattle.ogg_pages.proofs.Judged.{sound_of}
 use Rattle.ogg_pages.proofs.Streams.{stream-Whole, stream-Need, stream-Fault}
 use Rattle.celt_cli.specs.declared.progress.Progress.{Progress}

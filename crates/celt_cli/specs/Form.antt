@@ -1,6 +1,6 @@
 -- The form of a stream that is decoded so far: one channel, no pre-skip, no gain, each page one whole packet, each frame
 -- silent (RFC 7845, sections 3 to 5; RFC 6716, section 3). It is said page by page, of a page and of those before it.
-use Rattle.std.specs.Prelude.{ℕ, ℤ, pos, ◌+◌, ◌-◌, ◌*◌, ◌%◌, ◌^◌, ◌==◌, ◌&&◌, ◌||◌, Bool, not, List, [], ◌∷◌, ◌++◌, length, take, drop, slice_index, sum_by, nat_eq, nat_lt, nat_le}
+use Rattle.std.specs.Prelude.{ℕ, pos, ◌+◌, ◌-◌, ◌*◌, ◌%◌, ◌^◌, ◌==◌, ◌&&◌, ◌||◌, Bool, not, List, [], ◌∷◌, length, take, drop, slice_index, sum_by, nat_eq, nat_lt, nat_le}
 use Rattle.std.specs.List.{starts_with, list_all, list_any}
 use Rattle.std.specs.Ordering.{int_eq}
 use Rattle.byteorder.specs.Endian.{little_number}

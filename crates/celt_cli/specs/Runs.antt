@@ -1,5 +1,5 @@
 -- What a run says on the notes.
-use Rattle.std.specs.Prelude.{◌≡◌, ◌⊎◌, ℕ, List, [], Option, None, Some, ⊤}
+use Rattle.std.specs.Prelude.{◌⊎◌, ℕ, List, [], Option, ⊤}
 use Rattle.std.specs.Io.KnownBytes.{Appends, Keeps}
 use Rattle.celt_base.specs.declared.status.Status.{Status}
 use Rattle.celt_base.specs.declared.status.Status.TheVariants as statuses

@@ -1,5 +1,5 @@
-use Rattle.std.proofs.Common.{◌≡◌, ◌∙◌, ap, sym, refl, take, length, nat_lt}
-use Rattle.celt_cli.proofs.Finishing.{FirstDecoded, answers_input, writes_input}
+use Rattle.std.proofs.Common.{◌∙◌, ap, take, nat_lt}
+use Rattle.celt_cli.proofs.Finishing.{answers_input, writes_input}
 use Rattle.celt_cli.proofs.commands.decode_stream.Goals as goal
 
 pub returns-clause-status : goal.returns-clause-status

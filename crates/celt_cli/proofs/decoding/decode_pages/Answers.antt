@@ -1,8 +1,6 @@
-use Rattle.std.proofs.Common.{◌≡◌, ◌≤◌, ◌∙◌, sym, ap, length, refl, arith, subst, drop}
-use Rattle.ogg_pages.specs.Stream.{ending_of}
+use Rattle.std.proofs.Common.{◌≤◌, ◌∙◌, sym, ap, length, arith, subst, drop}
 use Rattle.ogg_pages.specs.Views.{bytes_in}
 use Rattle.ogg_pages.proofs.Streams.{ending_of-Fault}
-use Rattle.celt_base.specs.Outside.{Rose}
 use Rattle.celt_base.proofs.Causes.{rose_after}
 use Rattle.celt_cli.specs.Decoding.{end_fault}
 use Rattle.celt_cli.proofs.Walking.{Walking, start, one, not_built, at_end, at_break, failed, end_cases}

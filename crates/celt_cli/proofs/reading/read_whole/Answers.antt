@@ -1,4 +1,4 @@
-use Rattle.std.proofs.Common.{◌≡◌, ◌≤◌, List, ℕ, [], refl, arith}
+use Rattle.std.proofs.Common.{◌≤◌, [], refl, arith}
 use Rattle.std.proofs.KnownBytes.{Consumes-more}
 use Rattle.celt_cli.proofs.reading.read_whole.Goals as goal
 

@@ -1,4 +1,4 @@
-use Rattle.std.proofs.Common.{◌≡◌, ap, nat_eq, of_z, w64, [], arith}
+use Rattle.std.proofs.Common.{ap, nat_eq, of_z, w64, [], arith}
 use Rattle.range_coder.proofs.Answering.{first_bit_answer}
 use Rattle.celt_cli.proofs.silence.says_silence.Goals as goal
 

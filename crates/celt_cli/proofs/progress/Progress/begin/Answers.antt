@@ -1,4 +1,4 @@
-use Rattle.std.proofs.Common.{◌≡◌, ◌∙◌, sym, ap, ◌+◌, ◌%◌, ◌^◌, refl}
+use Rattle.std.proofs.Common.{◌∙◌, sym, ap, ◌+◌, ◌%◌, ◌^◌, refl}
 use Rattle.ogg_pages.specs.Views.{page_in}
 use Rattle.celt_cli.proofs.Accepting.{head_refused, head_accepted}
 use Rattle.celt_cli.proofs.progress.Progress.begin.Goals as goal

@@ -1,4 +1,4 @@
-use Rattle.std.proofs.Common.{◌≡◌, ◌+◌, ℕ, true, false, pos, ◌∙◌, sym, ap, refl}
+use Rattle.std.proofs.Common.{◌≡◌, ◌+◌, pos, ◌∙◌, sym, ap, refl}
 use Rattle.std.specs.Prelude.{◌==◌}
 use Rattle.std.specs.Ordering.{int_eq}
 use Rattle.std.proofs.lemmas.Bool.{and_left, and_right}
