@@ -1,6 +1,6 @@
 //! Rows of pages: read from pieces, refused, and written. The pages were made by a program apart from
 //! this one.
-use crate::page::{PageFault, Verdict, judge};
+use crate::page::{MAX_PAGE_LEN, PageFault, Verdict, judge};
 use crate::reader::{PageReader, Step, page_at};
 use crate::writer::write_page;
 use celt_base::status::OutOfMemory;
@@ -51,6 +51,11 @@ fn pages_are_read(rt: HostRuntime) -> Result<(), OutOfMemory> {
     Ok(())
 }
 
+/// As many bytes 7.
+fn filled(alloc: Global, len: usize) -> Result<Vec<u8>, std::alloc::AllocError> {
+    vec![in alloc; 7u8; len]
+}
+
 fn unreached(rt: &impl std::process::Abort) {
     assert!(rt; false, "a page");
 }
@@ -86,7 +91,8 @@ fn faults_are_answered_again(rt: HostRuntime) -> Result<(), OutOfMemory> {
 fn a_page_is_written(rt: HostRuntime) -> Result<(), std::alloc::AllocError> {
     let mut packet = [0xcdu8; 300];
     packet[0] = 0xab;
-    let mut out = vec![in rt.alloc(); 7u8; 65307]?;
+    let mut out = filled(rt.alloc(), MAX_PAGE_LEN)?;
+    assert_eq!(rt; out.len(), MAX_PAGE_LEN);
     let len = write_page(4, -2, 5, &packet, &mut out);
     assert_eq!(rt; len, 329);
     assert_eq!(rt; &out[..29], &LAST_HEAD[..]);
