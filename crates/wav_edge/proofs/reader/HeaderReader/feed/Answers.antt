@@ -1,0 +1,25 @@
+use Rattle.std.proofs.Common.{◌≡◌, ℕ, ◌-◌, Bool, List, [], ◌++◌, length, refl, sym, ap, ◌∙◌, Option}
+use Rattle.celt_base.specs.declared.status.Fault.{Fault}
+use Rattle.wav_edge.specs.declared.reader.Header.{Header}
+use Rattle.wav_edge.specs.declared.reader.Header.TheVariants.{Data}
+use Rattle.wav_edge.specs.Cursors.{resumed, resumed_state}
+use Rattle.wav_edge.specs.Reading.{Outcome, outcome}
+use Rattle.wav_edge.specs.Reading.Outcome.{Unfinished, Faulty, Started}
+use Rattle.wav_edge.specs.Readers.{answered}
+use Rattle.wav_edge.proofs.ReaderLemmas.{waits, comes_to}
+use Rattle.wav_edge.proofs.reader.HeaderReader.feed.Goals as goal
+
+pub returns-in-Reading-clause-answer : goal.returns-in-Reading-clause-answer
+returns-in-Reading-clause-answer c = λ bytes stands.
+    let after = c.in-Reading.field-0 in
+    sym (ap (answered (length bytes)) (comes_to c.args.self.now bytes c.args.piece.now (resumed after []) stands (c.in-Reading.ensures.resumes [])) ∙ waits after (length bytes))
+
+pub returns-in-Started-clause-answer : goal.returns-in-Started-clause-answer
+returns-in-Started-clause-answer c = λ bytes stands.
+    let s = c.in-Started in
+    ap (λ (before : ℕ). Data s.channels s.rate s.size (s.place - before)) stands.count
+    ∙ sym (ap (answered (length bytes)) (comes_to c.args.self.now bytes c.args.piece.now (Started s.channels s.rate s.size s.place) stands (c.in-Started.ensures.resumes [])))
+
+pub returns-in-Stopped-clause-answer : goal.returns-in-Stopped-clause-answer
+returns-in-Stopped-clause-answer c = λ bytes stands.
+    sym (ap (answered (length bytes)) (comes_to c.args.self.now bytes c.args.piece.now (Faulty c.in-Stopped.fault) stands (c.in-Stopped.ensures.resumes [])))

@@ -1,0 +1,5 @@
+pub mod Cursors
+pub mod Fields
+pub mod Parts
+pub mod Readers
+pub mod Reading

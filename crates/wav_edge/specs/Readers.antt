@@ -1,0 +1,48 @@
+-- What a reader of headers stands for, and its answers.
+use Rattle.std.specs.Prelude.{◌≡◌, ℕ, ◌-◌, Bool, true, false, List, ◌++◌, length, Option, Some, None}
+use Rattle.celt_base.specs.declared.status.Fault.{Fault}
+use Rattle.wav_edge.specs.declared.reader.HeaderReader.{HeaderReader}
+use Rattle.wav_edge.specs.declared.reader.Header.{Header}
+use Rattle.wav_edge.specs.declared.reader.Header.TheVariants.{Need, Data}
+use Rattle.wav_edge.specs.Cursors.{resumed_state, is_started, stopped_by}
+use Rattle.wav_edge.specs.Reading.{Outcome, outcome}
+use Rattle.wav_edge.specs.Reading.Outcome.{Unfinished, Faulty, Started}
+
+-- the reader was fed these bytes: whatever follows them, it will answer for them and what follows
+pub record StandsFor (reader : HeaderReader) (bytes : List ℕ) : Type 0 where
+  pub count : reader.fed ≡ length bytes
+  pub resumes : (more : List ℕ) → outcome (bytes ++ more) ≡ resumed_state reader.state more
+
+-- how many bytes it was fed
+abbrev pub bytes_fed : HeaderReader → ℕ
+bytes_fed reader = reader.fed
+
+-- it answered Data
+abbrev pub has_started : HeaderReader → Bool
+has_started reader = is_started reader.state
+
+-- the fault that it answered
+abbrev pub fault_of : HeaderReader → Option Fault
+fault_of reader = stopped_by reader.state
+
+-- the answer to a piece, where `before` bytes came in earlier ones
+abbrev pub answered : ℕ → Outcome → Header
+answered before (Unfinished between) = Need
+answered before (Faulty fault) = Header.Fault fault
+answered before (Started channels rate size place) = Data channels rate size (place - before)
+
+-- parts of an answer: whether it is Data, how many bytes of the piece the header takes there, and the fault
+abbrev pub is_data : Header → Bool
+is_data Need = false
+is_data (Data channels rate size used) = true
+is_data (Header.Fault fault) = false
+
+abbrev pub used_of : Header → ℕ
+used_of Need = 0
+used_of (Data channels rate size used) = used
+used_of (Header.Fault fault) = 0
+
+abbrev pub fault_in : Header → Option Fault
+fault_in Need = None
+fault_in (Data channels rate size used) = None
+fault_in (Header.Fault fault) = Some fault
