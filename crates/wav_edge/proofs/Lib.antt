@@ -2,3 +2,4 @@ pub mod FieldLemmas
 pub mod PartLemmas
 pub mod ReadLemmas
 pub mod ReaderLemmas
+pub mod SampleLemmas

@@ -3,3 +3,4 @@ pub mod Fields
 pub mod Parts
 pub mod Readers
 pub mod Reading
+pub mod Samples

@@ -6,3 +6,4 @@
 mod cursor;
 mod parts;
 pub mod reader;
+pub mod samples;
