@@ -3,3 +3,4 @@ pub mod PartLemmas
 pub mod ReadLemmas
 pub mod ReaderLemmas
 pub mod SampleLemmas
+pub mod SpellingLemmas

@@ -26,15 +26,17 @@ read_skip (byte ∷ bytes) more (suc left) seen at h =
 pub beyond : (k : ℕ) (p q : Part) → Settles k p q → p ≡ More → Beyond k q
 beyond k p q settles e =
     elim settles [
-      inl early ↦ early.1
-    | inr same ↦ let more : More ≡ q = sym (same ∙ e) in subst (Beyond k) more tt ]
+      | inl early ↦ early.1
+      | inr same ↦ let more : More ≡ q = sym (same ∙ e) in subst (Beyond k) more tt
+    ]
 
 -- what was said of a part stays
 pub told_stays : (seen : Seen) (at : ℕ) (bytes more : List ℕ) (p : Part) → part_at seen at bytes ≡ p → is_more p ≡ false → part_at seen at (bytes ++ more) ≡ p
 told_stays seen at bytes more p e told =
     elim (part_settles seen at bytes more) [
-      inl early ↦ let f : is_more p ≡ true = ap is_more (sym e ∙ early.0) in cc
-    | inr same ↦ same ∙ e ]
+      | inl early ↦ let f : is_more p ≡ true = ap is_more (sym e ∙ early.0) in cc
+      | inr same ↦ same ∙ e
+    ]
 
 -- a part that was told
 read_told : (byte : ℕ) (bytes more : List ℕ) (seen : Seen) (at : ℕ) (p : Part) → part_at seen at (byte ∷ bytes) ≡ p → is_more p ≡ false →

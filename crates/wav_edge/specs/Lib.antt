@@ -4,3 +4,4 @@ pub mod Parts
 pub mod Readers
 pub mod Reading
 pub mod Samples
+pub mod Spellings

@@ -40,7 +40,7 @@ bad_riff place = Broken (record { name = BadRiff; at = place })
 unfoldable pub form_part : List ℕ → Part
 form_part bytes =
     if fits riff (take 4 bytes) then
-      (if fits wave (take 4 (drop 8 bytes)) then once 12 bytes (Passed Form 12) else bad_riff 8)
+    (if fits wave (take 4 (drop 8 bytes)) then once 12 bytes (Passed Form 12) else bad_riff 8)
     else bad_riff 0
 
 -- the size of a chunk's contents
@@ -72,7 +72,7 @@ is_supported codec bytes =
 abbrev pub unsupported : ℕ → List ℕ → Part
 unsupported at bytes = Broken (record {
   name = UnsupportedFormat (number_at 2 8 bytes) (number_at 2 22 bytes) (number_at 2 10 bytes) (number_at 4 12 bytes);
-  at = at
+  at = at;
 })
 
 -- the fields of `fmt `, codec (or, in an extensible format, the sub-format) apart: channels at offset 2 of
@@ -87,7 +87,7 @@ described codec at bytes =
 unfoldable pub coded : ℕ → List ℕ → Part
 coded at bytes =
     if number_at 2 8 bytes == 0xFFFE then
-      (if nat_lt (size_of bytes) 40 then bad_riff (at + 4) else once 34 bytes (described (number_at 2 32 bytes) at bytes))
+    (if nat_lt (size_of bytes) 40 then bad_riff (at + 4) else once 34 bytes (described (number_at 2 32 bytes) at bytes))
     else once 24 bytes (described (number_at 2 8 bytes) at bytes)
 
 -- the chunk `fmt ` at this place: it must be the first one
@@ -101,9 +101,9 @@ format_part (Format channels rate) at bytes = bad_riff at
 unfoldable pub chunk_part : Seen → ℕ → List ℕ → Part
 chunk_part seen at bytes =
     once 4 bytes (
-      if fits data_letters (take 4 bytes) then data_part seen at bytes
-      else (if fits format_letters (take 4 bytes) then format_part seen at bytes
-            else once 8 bytes (Passed seen (chunk_length bytes))))
+    if fits data_letters (take 4 bytes) then data_part seen at bytes
+    else (if fits format_letters (take 4 bytes) then format_part seen at bytes
+    else once 8 bytes (Passed seen (chunk_length bytes))))
 
 -- the part that begins at this place, with these bytes and those that follow
 unfoldable pub part_at : Seen → ℕ → List ℕ → Part

@@ -7,3 +7,4 @@ mod cursor;
 mod parts;
 pub mod reader;
 pub mod samples;
+pub mod written;

@@ -24,7 +24,10 @@ pub enum Part {
     /// Too few bytes are there to tell.
     More,
     /// The part is of this length, and the next one follows it.
-    Passed { seen: Seen, length: u64 },
+    Passed {
+        seen: Seen,
+        length: u64,
+    },
     /// The part is the head of `data`, whose samples follow it; no size stands for the end of the input.
     Samples {
         channels: u8,
@@ -189,9 +192,7 @@ fn is_supported(codec: u16, bytes: &[u8]) -> bool
     ensures value { result ≡ is_supported codec bytes.now }
     ensures few_channels { IsTrue result → number_at 2 10 bytes.now ≤ 2 }
 {
-    codec == 1
-        && short_at(bytes, 22) == 16
-        && is_readable(short_at(bytes, 10), long_at(bytes, 12))
+    codec == 1 && short_at(bytes, 22) == 16 && is_readable(short_at(bytes, 10), long_at(bytes, 12))
 }
 
 /// The fields of `fmt `, by its codec or, in an extensible format, its sub-format.

@@ -10,7 +10,7 @@ loop-i-preserved c =
     let fits : FitsSigned w16 x = search rules in
     let bytes : c.to_le_bytes.result ≡ to_le_bytes w16 (of_z w16 x) = c.to_le_bytes.ensures ∙ ap (λ (z : ℤ). to_le_bytes w16 (of_z w16 z)) (to_z-of_z {w = w16} {z = x} fits) in
     bytes_put c.args.samples.now c.loop-i.out c.loop-i.i (get_or c.to_le_bytes.result 0 0) (get_or c.to_le_bytes.result 1 0) (pos 0) (omega arith) (omega arith)
-      (ap (λ (bs : List ℕ). get_or bs 0 0 ∷ get_or bs 1 0 ∷ []) bytes) c.loop-i.invariant
+    (ap (λ (bs : List ℕ). get_or bs 0 0 ∷ get_or bs 1 0 ∷ []) bytes) c.loop-i.invariant
 
 pub returns : goal.returns
 returns c = all_bytes_put c.args.samples.now c.loop-i.out c.loop-i.i (omega arith) (omega arith) c.loop-i.invariant

@@ -9,7 +9,7 @@ loop-i-preserved c =
     let r = c.from_le_bytes.result in
     let fits : FitsSigned w16 r = search rules in
     sample_put c.args.bytes.now c.loop-i.out c.loop-i.i (to_z w16 (of_z w16 r)) (omega arith) (omega arith)
-      (to_z-of_z {w = w16} {z = r} fits ∙ c.from_le_bytes.ensures) c.loop-i.invariant
+    (to_z-of_z {w = w16} {z = r} fits ∙ c.from_le_bytes.ensures) c.loop-i.invariant
 
 pub returns : goal.returns
 returns c = samples_put c.args.bytes.now c.loop-i.out c.loop-i.i (omega arith) (omega arith) c.loop-i.invariant

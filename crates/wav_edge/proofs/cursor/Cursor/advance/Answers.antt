@@ -14,9 +14,9 @@ loop-next-preserved-then-cursor-gt0 c =
       within = within;
       place = c.skip-cursor.ensures.moved ∙ omega arith;
       resumes = λ more.
-        let some : length (take n (drop i piece)) ≡ n = length-take-le n (drop i piece) (omega (arith, length-drop i piece)) in
-        c.loop-next.invariant.resumes more
-        ∙ ap (λ (xs : List ℕ). resumed c.loop-next.cursor (xs ++ more)) (drop_parts i n piece)
-        ∙ ap (resumed c.loop-next.cursor) (append_assoc (take n (drop i piece)) (drop (i + n) piece) more)
-        ∙ c.skip-cursor.ensures.resumes (take n (drop i piece)) (drop (i + n) piece ++ more) some
+          let some : length (take n (drop i piece)) ≡ n = length-take-le n (drop i piece) (omega (arith, length-drop i piece)) in
+          c.loop-next.invariant.resumes more
+          ∙ ap (λ (xs : List ℕ). resumed c.loop-next.cursor (xs ++ more)) (drop_parts i n piece)
+          ∙ ap (resumed c.loop-next.cursor) (append_assoc (take n (drop i piece)) (drop (i + n) piece) more)
+          ∙ c.skip-cursor.ensures.resumes (take n (drop i piece)) (drop (i + n) piece ++ more) some;
     }

@@ -6,7 +6,7 @@ abbrev pub invariant-loop-next : goal.invariant-loop-next
 invariant-loop-next l = record {
   within : l.next ≤ length l.piece;
   place : place_of l.cursor ≡ place_of l.fn.self + l.next;
-  resumes : (more : List ℕ) → resumed l.fn.self (l.piece ++ more) ≡ resumed l.cursor (drop l.next l.piece ++ more)
+  resumes : (more : List ℕ) → resumed l.fn.self (l.piece ++ more) ≡ resumed l.cursor (drop l.next l.piece ++ more);
 }
 
 abbrev pub decreases-loop-next : goal.decreases-loop-next

@@ -8,7 +8,7 @@ invariant_of-result c = record {
   readable = c.requires;
   room = omega arith;
   apart = omega arith;
-  untold = rw (nothing_told c.args.seen c.args.at) refl
+  untold = rw (nothing_told c.args.seen c.args.at) refl;
 }
 
 pub returns-clause-resumes : goal.returns-clause-resumes

@@ -12,7 +12,7 @@ returns-then-self-gt0 c =
     let s = c.args.self in
     let within : s.len ≤ length s.held = omega arith in
     unfinished_inside s.held s.len s.left s.seen s.at within s.untold s.apart
-      (elim c.then-self-gt0.either [ inl some ↦ inl some | inr some ↦ inr some.1 ])
+    (elim c.then-self-gt0.either [ inl some ↦ inl some | inr some ↦ inr some.1 ])
 
 pub returns-in-Nothing : goal.returns-in-Nothing
 unfolding resumed

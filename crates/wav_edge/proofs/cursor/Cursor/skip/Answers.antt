@@ -4,7 +4,6 @@ use Rattle.wav_edge.specs.Reading.{read}
 use Rattle.wav_edge.proofs.ReadLemmas.{read_skip, no_length}
 use Rattle.wav_edge.proofs.cursor.Cursor.skip.Goals as goal
 
-
 pub returns-clause-resumes : goal.returns-clause-resumes
 unfolding resumed
 returns-clause-resumes c = λ bytes more e.

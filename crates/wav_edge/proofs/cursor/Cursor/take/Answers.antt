@@ -15,7 +15,7 @@ overflow_sub-length c =
     let there : s.len < length s.held = omega arith in
     let g : Grown s.held s.len c.args.byte ys = put_behind s.held s.len c.args.byte ys there c.split_at.ensures.front in
     let far : Beyond (length (take s.len s.held)) (Passed c.in-Passed.seen c.in-Passed.length) =
-      grown_beyond (take s.len s.held) ys c.args.byte s.seen s.at (Passed c.in-Passed.seen c.in-Passed.length) g.joined s.untold c.in-Passed.ensures in
+    grown_beyond (take s.len s.held) ys c.args.byte s.seen s.at (Passed c.in-Passed.seen c.in-Passed.length) g.joined s.untold c.in-Passed.ensures in
     omega (arith, g.before, far)
 
 pub between-requires : goal.between-requires
@@ -34,7 +34,7 @@ invariant_of-result c =
       readable = s.readable;
       room = omega (arith, few, g.after);
       apart = omega arith;
-      untold = ap (λ (bytes : List ℕ). is_more (part_at s.seen s.at bytes)) (sym c.split_at.ensures.front) ∙ ap is_more (sym c.in-More.ensures)
+      untold = ap (λ (bytes : List ℕ). is_more (part_at s.seen s.at bytes)) (sym c.split_at.ensures.front) ∙ ap is_more (sym c.in-More.ensures);
     }
 
 pub returns-in-More-clause-resumes : goal.returns-in-More-clause-resumes
@@ -55,7 +55,7 @@ returns-in-Passed-clause-resumes c = λ more.
     let there : s.len < length s.held = omega arith in
     let g : Grown s.held s.len c.args.byte ys = put_behind s.held s.len c.args.byte ys there c.split_at.ensures.front in
     let far : Beyond (length (take s.len s.held)) (Passed c.in-Passed.seen c.in-Passed.length) =
-      grown_beyond (take s.len s.held) ys c.args.byte s.seen s.at (Passed c.in-Passed.seen c.in-Passed.length) g.joined s.untold c.in-Passed.ensures in
+    grown_beyond (take s.len s.held) ys c.args.byte s.seen s.at (Passed c.in-Passed.seen c.in-Passed.length) g.joined s.untold c.in-Passed.ensures in
     grown (take s.len s.held) ys more c.args.byte s.left s.seen s.at g.joined c.requires.inside
     ∙ read_passed ys more s.seen c.in-Passed.seen s.at c.in-Passed.length (sym c.in-Passed.ensures) (omega (arith, g.after)) (omega (arith, g.before, g.after, far))
     ∙ ap (λ (n : ℕ). read more (c.in-Passed.length - n) c.in-Passed.seen (s.at + n)) g.after

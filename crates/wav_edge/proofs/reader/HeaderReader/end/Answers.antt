@@ -10,5 +10,6 @@ returns c = λ bytes stands.
     let reader = c.args.self.now in
     let named : FaultName → Option Fault = λ name. Some (record { name = name; at = reader.fed }) in
     elim c.if-is_between.branch [
-      then-is_between w ↦ ends_at reader bytes true c.requires.unread c.requires.sound stands w.if-is_between.ensures ∙ ap named (sym w.name-is)
-    | else-is_between w ↦ ends_at reader bytes false c.requires.unread c.requires.sound stands w.if-is_between.ensures ∙ ap named (sym w.name-is) ]
+      | then-is_between w ↦ ends_at reader bytes true c.requires.unread c.requires.sound stands w.if-is_between.ensures ∙ ap named (sym w.name-is)
+      | else-is_between w ↦ ends_at reader bytes false c.requires.unread c.requires.sound stands w.if-is_between.ensures ∙ ap named (sym w.name-is)
+    ]
