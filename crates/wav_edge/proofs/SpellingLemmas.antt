@@ -1,7 +1,9 @@
 -- The form as it is written is read as what was meant.
-use Rattle.std.proofs.Common.{◌≡◌, ◌⊎◌, inl, inr, Bool, true, false, if◌then◌else◌, take, drop, length-append, ℕ, zero, suc, ◌+◌, ◌*◌, ◌/◌, ◌%◌, ◌^◌, ◌<◌, ◌≤◌, List, [], ◌∷◌, ◌++◌, length, get_or, refl, sym, ap, ◌∙◌, arith}
+use Rattle.std.proofs.Common.{◌≡◌, ◌⊎◌, inl, inr, Bool, true, false, Option, None, if◌then◌else◌, nat_lt, All, ◌-◌, take, drop, length-append, ℕ, zero, suc, ◌+◌, ◌*◌, ◌/◌, ◌%◌, ◌^◌, ◌<◌, ◌≤◌, List, [], ◌∷◌, ◌++◌, length, get_or, refl, sym, ap, ◌∙◌, arith}
 use Rattle.byteorder.specs.Endian.{little_bytes}
 use Rattle.byteorder.specs.Endian.{little_number}
+use Rattle.std.specs.List.{flat_map}
+use Rattle.std.proofs.lemmas.Bool.Decides.{nat_tests}
 use Rattle.byteorder.specs.Numbers.{little_number-reads_back, length-bytes_low_first}
 use Rattle.std.proofs.Math.Seq.{drop-append_seam, take-append_seam}
 use Rattle.std.proofs.lemmas.List.{length-take-le, append_assoc}
@@ -10,12 +12,14 @@ use Rattle.wav_edge.specs.declared.parts.Seen.TheVariants.{Nothing, Form, Format
 use Rattle.wav_edge.specs.declared.parts.Part.{Part}
 use Rattle.wav_edge.specs.declared.parts.Part.TheVariants.{More, Passed, Samples, Broken}
 use Rattle.wav_edge.specs.Fields.{number_at, fits, riff, wave, format_letters, data_letters}
-use Rattle.wav_edge.specs.Parts.{once, size_of, chunk_length, chunk_part, part_at}
+use Rattle.wav_edge.specs.Parts.{is_readable, is_supported, once, bad_riff, unsupported, form_part, described, coded, format_part, data_part, sized, size_of, chunk_length, chunk_part, part_at}
 use Rattle.wav_edge.specs.Reading.{Outcome, is_between, read, outcome}
-use Rattle.wav_edge.specs.Spellings.{chunk_bytes, Chunk, IsChunk, spelled, header}
+use Rattle.wav_edge.specs.Reading.Outcome.{Started}
+use Rattle.wav_edge.specs.Spellings.{chunk_bytes, Chunk, IsChunk, spelled, Description, format_contents, IsLong, Spelling, IsSpelling, spelling_of, declared, header}
+use Rattle.wav_edge.specs.Spellings.Description.{Plain, Extensible}
 use Rattle.wav_edge.proofs.FieldLemmas.{number_at-drop}
 use Rattle.wav_edge.proofs.PartLemmas.{once_there}
-use Rattle.wav_edge.proofs.ReadLemmas.{read_passed}
+use Rattle.wav_edge.proofs.ReadLemmas.{read_passed, read_samples}
 
 -- the header byte by byte
 pub header_bytes : (channels : ℕ) (s g : List ℕ) → channels < 256 → s ≡ little_bytes 4 (96000 * channels) → g ≡ little_bytes 2 (2 * channels) →
@@ -57,3 +61,175 @@ chunk_passed letters contents padding seen at four no_data no_format short =
     let word : take 4 bytes ≡ letters = first_four letters _ four in
     once_there 4 bytes _ (omega (arith, len)) ∙ (rw (word, no_data, no_format) (once_there 8 bytes (Passed seen (chunk_length bytes)) (omega (arith, len))))
     ∙ ap (λ (n : ℕ). Passed seen (8 + n + n % 2)) size ∙ ap (Passed seen) (sym len)
+
+-- a part that is passed over as a whole
+passed_whole : (bytes more : List ℕ) (seen after : Seen) (at : ℕ) → part_at seen at bytes ≡ Passed after (length bytes) → 0 < length bytes →
+    read (bytes ++ more) 0 seen at ≡ read more 0 after (at + length bytes)
+passed_whole bytes more seen after at e some =
+    let none : length bytes - length bytes ≡ 0 = omega arith in
+    read_passed bytes more seen after at (length bytes) e some (omega arith) ∙ ap (λ (left : ℕ). read more left after (at + length bytes)) none
+
+-- chunks that are passed over, after the form's head
+part_of_chunk : (seen : Seen) (at : ℕ) (bytes : List ℕ) → is_between 0 seen ≡ true → part_at seen at bytes ≡ chunk_part seen at bytes
+unfolding part_at
+part_of_chunk Nothing at bytes h = cc
+part_of_chunk Form at bytes h = refl
+part_of_chunk (Format channels rate) at bytes h = refl
+
+other_read : (chunk : Chunk) (more : List ℕ) (seen : Seen) (at : ℕ) → IsChunk chunk → is_between 0 seen ≡ true →
+    read (spelled chunk ++ more) 0 seen at ≡ read more 0 seen (at + length (spelled chunk))
+unfolding spelled
+other_read chunk more seen at is between =
+    passed_whole (spelled chunk) more seen seen at
+      (part_of_chunk seen at (spelled chunk) between ∙ chunk_passed chunk.letters chunk.contents chunk.padding seen at is.four is.no_data is.no_format is.short)
+      (omega (arith, chunk_bytes_length chunk.letters chunk.contents chunk.padding is.four))
+
+others_read : (chunks : List Chunk) (more : List ℕ) (seen : Seen) (at : ℕ) → All (λ chunk. IsChunk chunk) chunks → is_between 0 seen ≡ true →
+    read (flat_map spelled chunks ++ more) 0 seen at ≡ read more 0 seen (at + length (flat_map spelled chunks))
+others_read [] more seen at all between = ap (read more 0 seen) (omega arith)
+others_read (chunk ∷ chunks) more seen at all between =
+    let rest = flat_map spelled chunks in
+    ap (λ (bytes : List ℕ). read bytes 0 seen at) (append_assoc (spelled chunk) rest more)
+    ∙ other_read chunk (rest ++ more) seen at (all 0 chunk (omega arith)) between
+    ∙ others_read chunks more seen (at + length (spelled chunk)) (λ k d h. all (suc k) d (omega arith)) between
+    ∙ ap (read more 0 seen) (omega (arith, length-append (spelled chunk) rest))
+
+-- the fields of `fmt `
+described_passed : (channels at : ℕ) (bytes : List ℕ) → number_at 2 22 bytes ≡ 16 → number_at 2 10 bytes ≡ channels → number_at 4 12 bytes ≡ 48000 →
+    is_readable channels 48000 ≡ true → described 1 at bytes ≡ Passed (Format channels 48000) (chunk_length bytes)
+unfolding described is_supported
+described_passed channels at bytes bits some rate readable = rw (bits, some, rate, readable) refl
+
+format_passed : (at : ℕ) (bytes : List ℕ) (passed : Part) → take 4 bytes ≡ format_letters → 24 ≤ length bytes → 16 ≤ size_of bytes → coded at bytes ≡ passed → part_at Form at bytes ≡ passed
+unfolding part_at chunk_part format_part fits
+format_passed at bytes passed letters there large e =
+    let fits_size : nat_lt (size_of bytes) 16 ≡ false = grind (arith, nat_tests) in
+    let measured : (if nat_lt (size_of bytes) 16 then bad_riff (at + 4) else once 10 bytes (coded at bytes)) ≡ coded at bytes =
+      rw fits_size (once_there 10 bytes (coded at bytes) (omega arith)) in
+    let headed : format_part Form at bytes ≡ coded at bytes =
+      once_there 8 bytes (if nat_lt (size_of bytes) 16 then bad_riff (at + 4) else once 10 bytes (coded at bytes)) (omega arith) ∙ measured in
+    let found = if fits data_letters (take 4 bytes) then data_part Form at bytes
+      else (if fits format_letters (take 4 bytes) then format_part Form at bytes else once 8 bytes (Passed Form (chunk_length bytes))) in
+    let lettered : found ≡ format_part Form at bytes = rw letters refl in
+    once_there 4 bytes found (omega arith) ∙ lettered ∙ headed ∙ e
+
+-- a plain format: the head of the chunk, with any bytes as its size, and the contents
+abbrev plain_bytes : (a b c d channels speed group : ℕ) (tail : List ℕ) → List ℕ
+plain_bytes a b c d channels speed group tail =
+    format_letters ++ (a ∷ b ∷ c ∷ d ∷ (little_bytes 2 1 ++ (little_bytes 2 channels ++ (little_bytes 4 48000 ++ (little_bytes 4 speed ++ (little_bytes 2 group ++ (little_bytes 2 16 ++ tail)))))))
+
+plain_coded : (a b c d channels speed group at : ℕ) (tail : List ℕ) → channels < 256 → is_readable channels 48000 ≡ true →
+    coded at (plain_bytes a b c d channels speed group tail) ≡ Passed (Format channels 48000) (chunk_length (plain_bytes a b c d channels speed group tail))
+unfolding coded number_at
+plain_coded a b c d channels speed group at tail small readable =
+    let bytes = plain_bytes a b c d channels speed group tail in
+    let some : number_at 2 10 bytes ≡ channels = omega arith in
+    let there : 24 ≤ length bytes = omega arith in
+    once_there 24 bytes (described 1 at bytes) there ∙ described_passed channels at bytes refl some refl readable
+
+-- an extensible one
+abbrev extensible_bytes : (a b c d channels speed group other : ℕ) (tail : List ℕ) → List ℕ
+extensible_bytes a b c d channels speed group other tail =
+    format_letters ++ (a ∷ b ∷ c ∷ d ∷ (little_bytes 2 0xFFFE ++ (little_bytes 2 channels ++ (little_bytes 4 48000 ++ (little_bytes 4 speed ++ (little_bytes 2 group ++ (little_bytes 2 16
+    ++ (little_bytes 8 other ++ (little_bytes 2 1 ++ tail)))))))))
+
+extensible_coded : (a b c d channels speed group other at : ℕ) (tail : List ℕ) → channels < 256 → is_readable channels 48000 ≡ true → 40 ≤ size_of (extensible_bytes a b c d channels speed group other tail) →
+    coded at (extensible_bytes a b c d channels speed group other tail) ≡ Passed (Format channels 48000) (chunk_length (extensible_bytes a b c d channels speed group other tail))
+unfolding coded number_at
+extensible_coded a b c d channels speed group other at tail small readable large =
+    let bytes = extensible_bytes a b c d channels speed group other tail in
+    let some : number_at 2 10 bytes ≡ channels = omega arith in
+    let there : 34 ≤ length bytes = omega arith in
+    let enough : nat_lt (size_of bytes) 40 ≡ false = grind (arith, nat_tests) in
+    let measured : (if nat_lt (size_of bytes) 40 then bad_riff (at + 4) else once 34 bytes (described 1 at bytes)) ≡ described 1 at bytes = rw enough (once_there 34 bytes (described 1 at bytes) there) in
+    measured ∙ described_passed channels at bytes refl some refl readable
+
+readable_channels : (channels : ℕ) → (channels ≡ 1) ⊎ (channels ≡ 2) → is_readable channels 48000 ≡ true
+unfolding is_readable
+readable_channels channels few = elim few [ inl one ↦ rw one refl | inr two ↦ rw two refl ]
+
+few_channels : (channels : ℕ) → (channels ≡ 1) ⊎ (channels ≡ 2) → channels < 256
+few_channels channels few = elim few [ inl one ↦ omega arith | inr two ↦ omega arith ]
+
+-- `fmt ` as it is written
+format_told : (channels padding at : ℕ) (d : Description) → (channels ≡ 1) ⊎ (channels ≡ 2) → IsLong d → length (format_contents channels d) < 2 ^ 32 →
+    part_at Form at (chunk_bytes format_letters (format_contents channels d) padding)
+    ≡ Passed (Format channels 48000) (length (chunk_bytes format_letters (format_contents channels d) padding))
+format_told channels padding at (Plain speed group extra) few long short =
+    let contents = format_contents channels (Plain speed group extra) in
+    let bytes = chunk_bytes format_letters contents padding in
+    let len : length bytes ≡ 8 + length contents + length contents % 2 = chunk_bytes_length format_letters contents padding refl in
+    let size : size_of bytes ≡ length contents = number_at_field 4 4 (length contents) format_letters (contents ++ take (length contents % 2) (padding ∷ [])) refl (omega arith) in
+    let told : coded at bytes ≡ Passed (Format channels 48000) (chunk_length bytes) =
+      plain_coded _ _ _ _ channels speed group at (extra ++ take (length contents % 2) (padding ∷ [])) (few_channels channels few) (readable_channels channels few) in
+    format_passed at bytes (Passed (Format channels 48000) (chunk_length bytes)) refl (omega (arith, len)) (omega (arith, size)) told
+    ∙ ap (λ (n : ℕ). Passed (Format channels 48000) (8 + n + n % 2)) size ∙ ap (Passed (Format channels 48000)) (sym len)
+format_told channels padding at (Extensible speed group other extra) few long short =
+    let contents = format_contents channels (Extensible speed group other extra) in
+    let bytes = chunk_bytes format_letters contents padding in
+    let len : length bytes ≡ 8 + length contents + length contents % 2 = chunk_bytes_length format_letters contents padding refl in
+    let size : size_of bytes ≡ length contents = number_at_field 4 4 (length contents) format_letters (contents ++ take (length contents % 2) (padding ∷ [])) refl (omega arith) in
+    let told : coded at bytes ≡ Passed (Format channels 48000) (chunk_length bytes) =
+      extensible_coded _ _ _ _ channels speed group other at (extra ++ take (length contents % 2) (padding ∷ [])) (few_channels channels few) (readable_channels channels few) (omega (arith, size)) in
+    format_passed at bytes (Passed (Format channels 48000) (chunk_length bytes)) refl (omega (arith, len)) (omega (arith, size)) told
+    ∙ ap (λ (n : ℕ). Passed (Format channels 48000) (8 + n + n % 2)) size ∙ ap (Passed (Format channels 48000)) (sym len)
+
+-- the head of `data` as it is written
+sized_whole : (channels rate at size : ℕ) → (size ≡ 0xFFFFFFFF) ⊎ (size % (2 * channels) ≡ 0) → sized channels rate at size ≡ Samples channels rate (declared size)
+unfolding sized
+sized_whole channels rate at size whole = grind (arith, nat_tests)
+
+data_told : (channels at size : ℕ) → size < 2 ^ 32 → (size ≡ 0xFFFFFFFF) ⊎ (size % (2 * channels) ≡ 0) →
+    part_at (Format channels 48000) at (data_letters ++ little_bytes 4 size) ≡ Samples channels 48000 (declared size)
+unfolding part_at chunk_part data_part fits
+data_told channels at size small whole =
+    let field : size_of (data_letters ++ (little_bytes 4 size ++ [])) ≡ size = number_at_field 4 4 size data_letters [] refl (omega arith) in
+    ap (sized channels 48000 at) field ∙ sized_whole channels 48000 at size whole
+
+form_told : (size : ℕ) → part_at Nothing 0 (riff ++ (little_bytes 4 size ++ wave)) ≡ Passed Form 12
+unfolding part_at form_part fits
+form_told size = refl
+
+-- a header that is written gives its channels and its size, whatever follows it
+pub spelling_read : (s : Spelling) → IsSpelling s → (more : List ℕ) → outcome (spelling_of s ++ more) ≡ Started s.channels 48000 (declared s.data_size) (length (spelling_of s))
+unfolding outcome spelling_of
+spelling_read s is more =
+    let format = Format s.channels 48000 in
+    let before = flat_map spelled s.before in
+    let described = chunk_bytes format_letters (format_contents s.channels s.description) s.padding in
+    let after = flat_map spelled s.after in
+    let head = data_letters ++ little_bytes 4 s.data_size in
+    let form = riff ++ (little_bytes 4 s.file_size ++ wave) in
+    let joined : (before ++ (described ++ (after ++ head))) ++ more ≡ before ++ (described ++ (after ++ (head ++ more))) =
+      append_assoc before (described ++ (after ++ head)) more ∙ ap (λ (xs : List ℕ). before ++ xs) (append_assoc described (after ++ head) more ∙ ap (λ (xs : List ℕ). described ++ xs) (append_assoc after head more)) in
+    let total : length (form ++ (before ++ (described ++ (after ++ head)))) ≡ 12 + length before + length described + length after + 8 =
+      omega (arith, length-append before (described ++ (after ++ head)), length-append described (after ++ head), length-append after head) in
+    let some : 0 < length described = omega (arith, chunk_bytes_length format_letters (format_contents s.channels s.description) s.padding refl) in
+    ap (λ (bytes : List ℕ). read (form ++ bytes) 0 Nothing 0) joined
+    ∙ passed_whole form (before ++ (described ++ (after ++ (head ++ more)))) Nothing Form 0 (form_told s.file_size) (omega arith)
+    ∙ others_read s.before (described ++ (after ++ (head ++ more))) Form 12 is.before_passed refl
+    ∙ passed_whole described (after ++ (head ++ more)) Form format (12 + length before) (format_told s.channels s.padding (12 + length before) s.description is.one_or_two is.long is.short) some
+    ∙ others_read s.after (head ++ more) format (12 + length before + length described) is.after_passed refl
+    ∙ read_samples head more format (12 + length before + length described + length after) s.channels 48000 (declared s.data_size)
+        (data_told s.channels (12 + length before + length described + length after) s.data_size is.fits_size is.whole) (omega arith)
+    ∙ ap (Started s.channels 48000 (declared s.data_size)) (sym total)
+
+-- the header that is written before the samples are known
+header_spelling : ℕ → Spelling
+header_spelling channels = record {
+  file_size = 0xFFFFFFFF; before = []; channels = channels; description = Plain (96000 * channels) (2 * channels) [];
+  padding = 0; after = []; data_size = 0xFFFFFFFF
+}
+
+pub header_read : (channels : ℕ) → (channels ≡ 1) ⊎ (channels ≡ 2) → (more : List ℕ) → outcome (header channels ++ more) ≡ Started channels 48000 None 44
+unfolding header header_spelling spelling_of
+header_read channels few more =
+    spelling_read (header_spelling channels) (record {
+      before_passed = λ k d h. absurd (omega arith);
+      one_or_two = few;
+      long = tt;
+      short = omega arith;
+      after_passed = λ k d h. absurd (omega arith);
+      fits_size = omega arith;
+      whole = inl refl
+    }) more
