@@ -4,3 +4,4 @@ pub mod ReadLemmas
 pub mod ReaderLemmas
 pub mod SampleLemmas
 pub mod SpellingLemmas
+pub mod LawLemmas

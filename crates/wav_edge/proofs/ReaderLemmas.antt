@@ -1,5 +1,7 @@
 -- A reading under way, seen as an answer.
-use Rattle.std.proofs.Common.{◌≡◌, ℕ, ◌*◌, Bool, List, [], ◌++◌, length, take, refl, ap, sym, ◌∙◌, true, false, Option, None}
+use Rattle.std.proofs.Common.{◌≡◌, ℕ, ◌*◌, Bool, List, [], ◌++◌, length, take, refl, ap, sym, ◌∙◌, true, false, Option, None, ◌≤◌, ◌⊎◌, inl, inr, nat_eq, arith}
+use Rattle.std.proofs.lemmas.Bool.Decides.{nat_tests}
+use Rattle.wav_edge.specs.Parts.{is_readable}
 use Rattle.std.proofs.lemmas.List.{append-nil}
 use Rattle.wav_edge.specs.declared.cursor.Cursor.{Cursor}
 use Rattle.wav_edge.specs.declared.cursor.State.{State}
@@ -7,7 +9,7 @@ use Rattle.wav_edge.specs.declared.cursor.State.TheVariants.{Reading, Started, S
 use Rattle.wav_edge.specs.declared.reader.Header.{Header}
 use Rattle.wav_edge.specs.declared.reader.Header.TheVariants.{Need}
 use Rattle.wav_edge.specs.declared.reader.HeaderReader.{HeaderReader}
-use Rattle.wav_edge.specs.Cursors.{resumed, resumed_state, is_started, stopped_by, EndsBetween}
+use Rattle.wav_edge.specs.Cursors.{resumed, resumed_state, is_started, stopped_by, EndsBetween, IsStep}
 use Rattle.wav_edge.specs.Readers.{StandsFor, answered, has_started, fault_of}
 use Rattle.wav_edge.specs.Reading.{Outcome, outcome, end_fault, fault_at_end}
 use Rattle.wav_edge.specs.Reading.Outcome.{Unfinished}
@@ -37,3 +39,24 @@ unfolding end_fault
 ends_at reader bytes between e f stands ends =
     let given : outcome bytes ≡ Unfinished between = ap outcome (sym (append-nil bytes)) ∙ stands.resumes [] ∙ unstarted reader.state between e f ends in
     ap (λ (o : Outcome). fault_at_end o (length bytes)) given ∙ ap (fault_at_end (Unfinished between)) (sym stands.count)
+
+-- what a reader's state after a piece gives is what its state before gave for the piece
+pub said_by : (reader : HeaderReader) (piece : List ℕ) (after : Outcome) → resumed_state reader.state (piece ++ []) ≡ after → resumed_state reader.state piece ≡ after
+said_by reader piece after e = ap (resumed_state reader.state) (sym (append-nil piece)) ∙ e
+
+-- samples that a step found can be read
+pub step_readable : (state : State) (n channels rate : ℕ) (size : Option ℕ) (place : ℕ) → is_started state ≡ false → IsStep state n (Started channels rate size place) → is_readable channels rate ≡ true
+step_readable (Reading cursor) n channels rate size place e step = step.2
+step_readable (Started c r s p) n channels rate size place e step = cc
+step_readable (Stopped fault) n channels rate size place e step = cc
+
+pub readable_bounds : (channels rate : ℕ) → is_readable channels rate ≡ true → (1 ≤ channels) × (channels ≤ 2) × (rate ≡ 48000)
+unfolding is_readable
+readable_bounds channels rate h = (grind (arith, nat_tests), grind (arith, nat_tests), grind (arith, nat_tests))
+
+pub readable_cases : (channels rate : ℕ) → is_readable channels rate ≡ true → (channels ≡ 1) ⊎ (channels ≡ 2)
+readable_cases channels rate h =
+    let bounds = readable_bounds channels rate h in
+    elim (nat_eq channels 1) as (λ t. nat_eq channels 1 ≡ t → (channels ≡ 1) ⊎ (channels ≡ 2)) [
+      true ↦ λ e. inl (grind (arith, nat_tests))
+    | false ↦ λ e. inr (grind (arith, nat_tests)) ] refl

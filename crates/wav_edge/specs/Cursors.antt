@@ -4,6 +4,7 @@ use Rattle.celt_base.specs.declared.status.Fault.{Fault}
 use Rattle.wav_edge.specs.declared.cursor.Cursor.{Cursor}
 use Rattle.wav_edge.specs.declared.cursor.State.{State}
 use Rattle.wav_edge.specs.declared.cursor.State.TheVariants.{Reading, Started, Stopped}
+use Rattle.wav_edge.specs.Parts.{is_readable}
 use Rattle.wav_edge.specs.Reading.{Outcome, read}
 use Rattle.wav_edge.specs.Reading.Outcome.{Unfinished, Faulty}
 
@@ -21,10 +22,11 @@ resumed_state (Stopped fault) more = Faulty fault
 abbrev pub place_of : Cursor → ℕ
 place_of cursor = cursor.at + cursor.len
 
--- the state after n bytes from a place on: samples begin after the first of them at the earliest
+-- the state after n bytes from a place on: samples begin after the first of them at the earliest, and can be
+-- read
 abbrev pub IsMoved : ℕ → ℕ → State → Type 0
 IsMoved from n (Reading cursor) = place_of cursor ≡ from + n
-IsMoved from n (Started channels rate size place) = (from < place) × (place ≤ from + n)
+IsMoved from n (Started channels rate size place) = (from < place) × (place ≤ from + n) × (is_readable channels rate ≡ true)
 IsMoved from n (Stopped fault) = Unit {0}
 
 -- the state after n bytes more: only a reading that is under way moves

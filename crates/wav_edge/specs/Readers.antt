@@ -1,5 +1,5 @@
 -- What a reader of headers stands for, and its answers.
-use Rattle.std.specs.Prelude.{◌≡◌, ℕ, ◌-◌, Bool, true, false, List, ◌++◌, length, Option, Some, None}
+use Rattle.std.specs.Prelude.{◌≡◌, ◌≤◌, ℕ, ◌-◌, Bool, true, false, List, ◌++◌, length, Option, Some, None}
 use Rattle.celt_base.specs.declared.status.Fault.{Fault}
 use Rattle.wav_edge.specs.declared.reader.HeaderReader.{HeaderReader}
 use Rattle.wav_edge.specs.declared.reader.Header.{Header}
@@ -30,6 +30,16 @@ abbrev pub answered : ℕ → Outcome → Header
 answered before (Unfinished between) = Need
 answered before (Faulty fault) = Header.Fault fault
 answered before (Started channels rate size place) = Data channels rate size (place - before)
+
+-- what a reader answers to a piece
+abbrev pub answer_to : HeaderReader → List ℕ → Header
+answer_to reader piece = answered reader.fed (resumed_state reader.state piece)
+
+-- samples that were found are of one channel or two, at 48 kHz
+abbrev pub IsPlayable : Header → Type 0
+IsPlayable Need = Unit {0}
+IsPlayable (Data channels rate size used) = (1 ≤ channels) × (channels ≤ 2) × (rate ≡ 48000)
+IsPlayable (Header.Fault fault) = Unit {0}
 
 -- parts of an answer: whether it is Data, how many bytes of the piece the header takes there, and the fault
 abbrev pub is_data : Header → Bool

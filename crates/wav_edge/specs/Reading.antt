@@ -1,6 +1,6 @@
 -- What the bytes of a RIFF WAVE file give, in reading order: the format and the place of its samples, or
 -- the first fault.
-use Rattle.std.specs.Prelude.{ℕ, zero, suc, ◌+◌, ◌-◌, ◌*◌, ◌%◌, Bool, true, false, ◌==◌, if◌then◌else◌, nat_le, List, [], ◌∷◌, length, take, drop, Option, Some, None}
+use Rattle.std.specs.Prelude.{ℕ, ℤ, zero, suc, ◌+◌, ◌-◌, ◌*◌, ◌%◌, Bool, true, false, ◌==◌, if◌then◌else◌, nat_le, List, [], ◌∷◌, length, take, drop, Option, Some, None}
 use Rattle.celt_base.specs.declared.status.Fault.{Fault}
 use Rattle.celt_base.specs.declared.status.FaultName.{FaultName}
 use Rattle.celt_base.specs.declared.status.FaultName.TheVariants.{NoData, DataTruncated}
@@ -9,6 +9,7 @@ use Rattle.wav_edge.specs.declared.parts.Seen.TheVariants.{Nothing, Form, Format
 use Rattle.wav_edge.specs.declared.parts.Part.{Part}
 use Rattle.wav_edge.specs.declared.parts.Part.TheVariants.{More, Passed, Samples, Broken}
 use Rattle.wav_edge.specs.Parts.{part_at}
+use Rattle.wav_edge.specs.Samples.{samples_of}
 
 -- what some bytes give
 pub data Outcome : Type 0 where
@@ -60,12 +61,16 @@ fault_at_end (Started channels rate size place) n =
 unfoldable pub end_fault : List ℕ → Option Fault
 end_fault bytes = fault_at_end (outcome bytes) (length bytes)
 
--- the bytes of the samples
-abbrev pub sample_bytes_from : Outcome → List ℕ → List ℕ
-sample_bytes_from (Unfinished between) bytes = []
-sample_bytes_from (Faulty fault) bytes = []
-sample_bytes_from (Started channels rate None place) bytes = drop place bytes
-sample_bytes_from (Started channels rate (Some size) place) bytes = take size (drop place bytes)
+-- of the bytes that follow the head of `data`, those of the samples
+abbrev pub within_size : Option ℕ → List ℕ → List ℕ
+within_size None bytes = bytes
+within_size (Some size) bytes = take size bytes
 
-unfoldable pub sample_bytes : List ℕ → List ℕ
-sample_bytes bytes = sample_bytes_from (outcome bytes) bytes
+abbrev pub sample_bytes : Outcome → List ℕ → List ℕ
+sample_bytes (Unfinished between) bytes = []
+sample_bytes (Faulty fault) bytes = []
+sample_bytes (Started channels rate size place) bytes = within_size size (drop place bytes)
+
+-- the samples of a file's bytes so far, channels interleaved
+unfoldable pub samples : List ℕ → List ℤ
+samples bytes = samples_of (sample_bytes (outcome bytes) bytes)

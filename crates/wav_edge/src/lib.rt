@@ -4,6 +4,7 @@
 #![tactic(auto)]
 
 mod cursor;
+pub mod laws;
 mod parts;
 pub mod reader;
 pub mod samples;

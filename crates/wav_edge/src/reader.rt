@@ -40,7 +40,7 @@ pub struct HeaderReader {
 impl HeaderReader {
     ghost use Rattle.std.specs.Prelude.{◌≡◌, ◌≤◌, ◌+◌, ◌^◌, ◌++◌, ℕ, List, [], length, false, None, Some, IfSome, ◌↔◌};
     ghost use Rattle.wav_edge.specs.Reading.{outcome, end_fault};
-    ghost use Rattle.wav_edge.specs.Readers.{StandsFor, bytes_fed, has_started, fault_of, answered, is_data, used_of, fault_in};
+    ghost use Rattle.wav_edge.specs.Readers.{StandsFor, bytes_fed, has_started, fault_of, answered, answer_to, IsPlayable, is_data, used_of, fault_in};
 
     /// Before the first byte of a file.
     pub fn new() -> HeaderReader
@@ -63,6 +63,8 @@ impl HeaderReader {
         requires limit { bytes_fed self.old + length piece.now ≤ 2 ^ 40 }
         ensures longer { (bytes : List ℕ) → StandsFor self.old bytes → StandsFor self.new (bytes ++ piece.now) }
         ensures answer { (bytes : List ℕ) → StandsFor self.old bytes → result ≡ answered (length bytes) (outcome (bytes ++ piece.now)) }
+        ensures said { result ≡ answer_to self.old piece.now }
+        ensures playable { IsPlayable result }
         ensures used { used_of result ≤ length piece.now }
         ensures again { IfSome (fault_of self.old) (λ fault. result ≡ Header.Fault fault) }
         ensures fed { bytes_fed self.new ≡ bytes_fed self.old + length piece.now }

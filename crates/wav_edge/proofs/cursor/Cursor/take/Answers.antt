@@ -71,7 +71,7 @@ returns-in-Samples-clause-moved c =
     let far : Beyond (length (take s.len s.held)) p = grown_beyond (take s.len s.held) ys c.args.byte s.seen s.at p g.joined s.untold c.in-Samples.ensures in
     let told : IsTold (length ys) p = subst (IsTold (length ys)) (sym c.in-Samples.ensures) (part_told s.seen s.at ys s.readable) in
     let eight : 8 ≤ length ys = told.0 in
-    (omega (arith, g.before, far), omega (arith, g.after, eight))
+    (omega (arith, g.before, far), omega (arith, g.after, eight), told.1)
 
 pub returns-in-Samples-clause-resumes : goal.returns-in-Samples-clause-resumes
 unfolding resumed

@@ -6,8 +6,30 @@ use Rattle.wav_edge.specs.Cursors.{resumed, resumed_state}
 use Rattle.wav_edge.specs.Reading.{Outcome, outcome}
 use Rattle.wav_edge.specs.Reading.Outcome.{Unfinished, Faulty, Started}
 use Rattle.wav_edge.specs.Readers.{answered}
-use Rattle.wav_edge.proofs.ReaderLemmas.{waits, comes_to}
+use Rattle.wav_edge.proofs.ReaderLemmas.{waits, comes_to, said_by, step_readable, readable_bounds}
 use Rattle.wav_edge.proofs.reader.HeaderReader.feed.Goals as goal
+
+pub returns-in-Reading-clause-said : goal.returns-in-Reading-clause-said
+returns-in-Reading-clause-said c =
+    let reader = c.args.self.now in
+    let after = c.in-Reading.field-0 in
+    sym (ap (answered reader.fed) (said_by reader c.args.piece.now (resumed after []) (c.in-Reading.ensures.resumes [])) ∙ waits after reader.fed)
+
+pub returns-in-Started-clause-said : goal.returns-in-Started-clause-said
+returns-in-Started-clause-said c =
+    let reader = c.args.self.now in
+    let s = c.in-Started in
+    sym (ap (answered reader.fed) (said_by reader c.args.piece.now (Started s.channels s.rate s.size s.place) (c.in-Started.ensures.resumes [])))
+
+pub returns-in-Stopped-clause-said : goal.returns-in-Stopped-clause-said
+returns-in-Stopped-clause-said c =
+    let reader = c.args.self.now in
+    sym (ap (answered reader.fed) (said_by reader c.args.piece.now (Faulty c.in-Stopped.fault) (c.in-Stopped.ensures.resumes [])))
+
+pub returns-in-Started-clause-playable : goal.returns-in-Started-clause-playable
+returns-in-Started-clause-playable c =
+    let s = c.in-Started in
+    readable_bounds s.channels s.rate (step_readable c.args.self.now.state (length c.args.piece.now) s.channels s.rate s.size s.place c.requires.unread c.in-Started.ensures.step)
 
 pub returns-in-Reading-clause-answer : goal.returns-in-Reading-clause-answer
 returns-in-Reading-clause-answer c = λ bytes stands.

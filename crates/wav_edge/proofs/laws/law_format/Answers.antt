@@ -1,0 +1,11 @@
+use Rattle.std.proofs.Common.{◌≡◌, ℕ, length, subst, Option}
+use Rattle.wav_edge.specs.Reading.{outcome}
+use Rattle.wav_edge.specs.Reading.Outcome.{Started}
+use Rattle.wav_edge.proofs.LawLemmas.{IsSound, outcome_sound}
+use Rattle.wav_edge.proofs.ReaderLemmas.{readable_bounds, readable_cases}
+use Rattle.wav_edge.proofs.laws.law_format.Goals as goal
+
+pub returns : goal.returns
+returns c = λ bytes channels rate size place e.
+    let sound : IsSound (length bytes) (Started channels rate size place) = subst (IsSound (length bytes)) e (outcome_sound bytes) in
+    (readable_cases channels rate sound.0, (readable_bounds channels rate sound.0).2, sound.1)
