@@ -9,3 +9,6 @@ mod parts;
 pub mod reader;
 pub mod samples;
 pub mod written;
+
+#[cfg(test)]
+mod tests;
