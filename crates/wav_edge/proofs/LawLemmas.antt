@@ -1,6 +1,5 @@
 -- What the outcome of some bytes says of longer ones, and of the format that was read.
-use Rattle.std.proofs.Common.{◌≡◌, ◌≤◌, ◌<◌, ℕ, zero, suc, ◌+◌, ◌-◌, Bool, true, false, List, [], ◌∷◌, ◌++◌, length, Option, refl, sym, ap, subst, ◌∙◌, arith}
-use Rattle.celt_base.specs.declared.status.Fault.{Fault}
+use Rattle.std.proofs.Common.{◌≡◌, ◌≤◌, ℕ, zero, suc, ◌+◌, ◌-◌, Bool, true, false, List, [], ◌∷◌, ◌++◌, length, refl, ap, subst, ◌∙◌, arith}
 use Rattle.wav_edge.specs.declared.parts.Seen.{Seen}
 use Rattle.wav_edge.specs.declared.parts.Seen.TheVariants.{Nothing}
 use Rattle.wav_edge.specs.declared.parts.Part.{Part}
@@ -32,9 +31,9 @@ read_stays [] more left seen at decided = cc
 read_stays (byte ∷ bytes) more (suc left) seen at decided = read_stays bytes more left seen (at + 1) decided
 read_stays (byte ∷ bytes) more zero seen at decided =
     followed_stays at (part_at seen at (byte ∷ bytes)) (part_at seen at (byte ∷ (bytes ++ more)))
-      (λ left' seen'. read bytes left' seen' (at + 1)) (λ left' seen'. read (bytes ++ more) left' seen' (at + 1)) decided
-      (λ told. told_stays seen at (byte ∷ bytes) more (part_at seen at (byte ∷ bytes)) refl told)
-      (λ left' seen' h. read_stays bytes more left' seen' (at + 1) h)
+    (λ left' seen'. read bytes left' seen' (at + 1)) (λ left' seen'. read (bytes ++ more) left' seen' (at + 1)) decided
+    (λ told. told_stays seen at (byte ∷ bytes) more (part_at seen at (byte ∷ bytes)) refl told)
+    (λ left' seen' h. read_stays bytes more left' seen' (at + 1) h)
 
 -- a fault, or the samples, once found stay
 pub outcome_stays : (bytes more : List ℕ) → is_decided (outcome bytes) ≡ true → outcome (bytes ++ more) ≡ outcome bytes
@@ -66,7 +65,7 @@ read_sound (byte ∷ bytes) zero seen at can =
     let next : ℕ → Seen → Outcome = λ left' seen'. read bytes left' seen' (at + 1) in
     let P : ℕ → Type 0 = λ n. IsSound n (followed at (part_at seen at (byte ∷ bytes)) next) in
     subst P e (followed_sound at (length bytes) (part_at seen at (byte ∷ bytes)) next (part_told seen at (byte ∷ bytes) can)
-      (λ left' seen' h. read_sound bytes left' seen' (at + 1) h))
+    (λ left' seen' h. read_sound bytes left' seen' (at + 1) h))
 
 pub outcome_sound : (bytes : List ℕ) → IsSound (length bytes) (outcome bytes)
 unfolding outcome

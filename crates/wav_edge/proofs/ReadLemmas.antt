@@ -5,7 +5,7 @@ use Rattle.wav_edge.specs.declared.parts.Seen.{Seen}
 use Rattle.wav_edge.specs.declared.parts.Part.{Part}
 use Rattle.wav_edge.specs.declared.parts.Part.TheVariants.{More, Passed, Samples, Broken}
 use Rattle.wav_edge.specs.Parts.{is_more, part_at}
-use Rattle.wav_edge.specs.Reading.{Outcome, followed, is_between, read}
+use Rattle.wav_edge.specs.Reading.{followed, is_between, read}
 use Rattle.wav_edge.specs.Reading.Outcome.{Unfinished, Faulty, Started}
 use Rattle.wav_edge.proofs.PartLemmas.{Beyond, Settles, part_settles, is_more-More}
 use Rattle.std.proofs.lemmas.List.{append_assoc, append-nil, take_more_set, length-take-le, take-append-drop, drop-drop}

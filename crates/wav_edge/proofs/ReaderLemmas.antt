@@ -1,19 +1,18 @@
 -- A reading under way, seen as an answer.
-use Rattle.std.proofs.Common.{◌≡◌, ℕ, ◌*◌, Bool, List, [], ◌++◌, length, take, refl, ap, sym, ◌∙◌, true, false, Option, None, ◌≤◌, ◌⊎◌, inl, inr, nat_eq, arith}
+use Rattle.std.proofs.Common.{◌≡◌, ℕ, Bool, List, [], ◌++◌, length, take, refl, ap, sym, ◌∙◌, true, false, Option, None, ◌≤◌, ◌⊎◌, inl, inr, nat_eq, arith}
 use Rattle.std.proofs.lemmas.Bool.Decides.{nat_tests}
 use Rattle.wav_edge.specs.Parts.{is_readable}
 use Rattle.std.proofs.lemmas.List.{append-nil}
 use Rattle.wav_edge.specs.declared.cursor.Cursor.{Cursor}
 use Rattle.wav_edge.specs.declared.cursor.State.{State}
 use Rattle.wav_edge.specs.declared.cursor.State.TheVariants.{Reading, Started, Stopped}
-use Rattle.wav_edge.specs.declared.reader.Header.{Header}
 use Rattle.wav_edge.specs.declared.reader.Header.TheVariants.{Need}
 use Rattle.wav_edge.specs.declared.reader.HeaderReader.{HeaderReader}
 use Rattle.wav_edge.specs.Cursors.{resumed, resumed_state, is_started, stopped_by, EndsBetween, IsStep}
 use Rattle.wav_edge.specs.Readers.{StandsFor, answered, has_started, fault_of}
 use Rattle.wav_edge.specs.Reading.{Outcome, outcome, end_fault, fault_at_end}
 use Rattle.wav_edge.specs.Reading.Outcome.{Unfinished}
-use Rattle.wav_edge.proofs.ReadLemmas.{unfinished, ends_between, apart_taken}
+use Rattle.wav_edge.proofs.ReadLemmas.{unfinished, apart_taken}
 
 -- a reading under way has neither samples nor a fault
 pub waits : (cursor : Cursor) (before : ℕ) → answered before (resumed cursor []) ≡ Need
@@ -58,5 +57,6 @@ pub readable_cases : (channels rate : ℕ) → is_readable channels rate ≡ tru
 readable_cases channels rate h =
     let bounds = readable_bounds channels rate h in
     elim (nat_eq channels 1) as (λ t. nat_eq channels 1 ≡ t → (channels ≡ 1) ⊎ (channels ≡ 2)) [
-      true ↦ λ e. inl (grind (arith, nat_tests))
-    | false ↦ λ e. inr (grind (arith, nat_tests)) ] refl
+      | true ↦ λ e. inl (grind (arith, nat_tests))
+      | false ↦ λ e. inr (grind (arith, nat_tests))
+    ] refl

@@ -1,5 +1,5 @@
 -- The form as it is written is read as what was meant.
-use Rattle.std.proofs.Common.{◌≡◌, ◌⊎◌, inl, inr, Bool, true, false, Option, None, if◌then◌else◌, nat_lt, All, ◌-◌, take, drop, length-append, ℕ, zero, suc, ◌+◌, ◌*◌, ◌/◌, ◌%◌, ◌^◌, ◌<◌, ◌≤◌, List, [], ◌∷◌, ◌++◌, length, get_or, refl, sym, ap, ◌∙◌, arith}
+use Rattle.std.proofs.Common.{◌≡◌, ◌⊎◌, inl, inr, true, false, None, if◌then◌else◌, nat_lt, All, ◌-◌, take, drop, length-append, ℕ, suc, ◌+◌, ◌*◌, ◌/◌, ◌%◌, ◌^◌, ◌<◌, ◌≤◌, List, [], ◌∷◌, ◌++◌, length, get_or, refl, sym, ap, ◌∙◌, arith}
 use Rattle.byteorder.specs.Endian.{little_bytes}
 use Rattle.byteorder.specs.Endian.{little_number}
 use Rattle.std.specs.List.{flat_map}
@@ -10,10 +10,10 @@ use Rattle.std.proofs.lemmas.List.{length-take-le, append_assoc}
 use Rattle.wav_edge.specs.declared.parts.Seen.{Seen}
 use Rattle.wav_edge.specs.declared.parts.Seen.TheVariants.{Nothing, Form, Format}
 use Rattle.wav_edge.specs.declared.parts.Part.{Part}
-use Rattle.wav_edge.specs.declared.parts.Part.TheVariants.{More, Passed, Samples, Broken}
+use Rattle.wav_edge.specs.declared.parts.Part.TheVariants.{Passed, Samples}
 use Rattle.wav_edge.specs.Fields.{number_at, fits, riff, wave, format_letters, data_letters}
-use Rattle.wav_edge.specs.Parts.{is_readable, is_supported, once, bad_riff, unsupported, form_part, described, coded, format_part, data_part, sized, size_of, chunk_length, chunk_part, part_at}
-use Rattle.wav_edge.specs.Reading.{Outcome, is_between, read, outcome}
+use Rattle.wav_edge.specs.Parts.{is_readable, is_supported, once, bad_riff, form_part, described, coded, format_part, data_part, sized, size_of, chunk_length, chunk_part, part_at}
+use Rattle.wav_edge.specs.Reading.{is_between, read, outcome}
 use Rattle.wav_edge.specs.Reading.Outcome.{Started}
 use Rattle.wav_edge.specs.Spellings.{chunk_bytes, Chunk, IsChunk, spelled, Description, format_contents, IsLong, Spelling, IsSpelling, spelling_of, declared, header}
 use Rattle.wav_edge.specs.Spellings.Description.{Plain, Extensible}
@@ -47,8 +47,15 @@ chunk_bytes_length : (letters contents : List ℕ) (padding : ℕ) → length le
 chunk_bytes_length letters contents padding e =
     let n = length contents in
     let pad : length (take (n % 2) (padding ∷ [])) ≡ n % 2 = length-take-le (n % 2) (padding ∷ []) (omega arith) in
-    omega (arith, length-append letters (little_bytes 4 n ++ (contents ++ take (n % 2) (padding ∷ []))), length-append (little_bytes 4 n) (contents ++ take (n % 2) (padding ∷ [])),
-      length-append contents (take (n % 2) (padding ∷ [])), length-bytes_low_first 0 4 n, pad, e)
+    omega (
+      arith,
+      length-append letters (little_bytes 4 n ++ (contents ++ take (n % 2) (padding ∷ []))),
+      length-append (little_bytes 4 n) (contents ++ take (n % 2) (padding ∷ [])),
+      length-append contents (take (n % 2) (padding ∷ [])),
+      length-bytes_low_first 0 4 n,
+      pad,
+      e,
+    )
 
 -- a chunk that is passed over
 chunk_passed : (letters contents : List ℕ) (padding : ℕ) (seen : Seen) (at : ℕ) → length letters ≡ 4 → fits data_letters letters ≡ false → fits format_letters letters ≡ false →
@@ -81,8 +88,8 @@ other_read : (chunk : Chunk) (more : List ℕ) (seen : Seen) (at : ℕ) → IsCh
 unfolding spelled
 other_read chunk more seen at is between =
     passed_whole (spelled chunk) more seen seen at
-      (part_of_chunk seen at (spelled chunk) between ∙ chunk_passed chunk.letters chunk.contents chunk.padding seen at is.four is.no_data is.no_format is.short)
-      (omega (arith, chunk_bytes_length chunk.letters chunk.contents chunk.padding is.four))
+    (part_of_chunk seen at (spelled chunk) between ∙ chunk_passed chunk.letters chunk.contents chunk.padding seen at is.four is.no_data is.no_format is.short)
+    (omega (arith, chunk_bytes_length chunk.letters chunk.contents chunk.padding is.four))
 
 others_read : (chunks : List Chunk) (more : List ℕ) (seen : Seen) (at : ℕ) → All (λ chunk. IsChunk chunk) chunks → is_between 0 seen ≡ true →
     read (flat_map spelled chunks ++ more) 0 seen at ≡ read more 0 seen (at + length (flat_map spelled chunks))
@@ -105,11 +112,11 @@ unfolding part_at chunk_part format_part fits
 format_passed at bytes passed letters there large e =
     let fits_size : nat_lt (size_of bytes) 16 ≡ false = grind (arith, nat_tests) in
     let measured : (if nat_lt (size_of bytes) 16 then bad_riff (at + 4) else once 10 bytes (coded at bytes)) ≡ coded at bytes =
-      rw fits_size (once_there 10 bytes (coded at bytes) (omega arith)) in
+    rw fits_size (once_there 10 bytes (coded at bytes) (omega arith)) in
     let headed : format_part Form at bytes ≡ coded at bytes =
-      once_there 8 bytes (if nat_lt (size_of bytes) 16 then bad_riff (at + 4) else once 10 bytes (coded at bytes)) (omega arith) ∙ measured in
+    once_there 8 bytes (if nat_lt (size_of bytes) 16 then bad_riff (at + 4) else once 10 bytes (coded at bytes)) (omega arith) ∙ measured in
     let found = if fits data_letters (take 4 bytes) then data_part Form at bytes
-      else (if fits format_letters (take 4 bytes) then format_part Form at bytes else once 8 bytes (Passed Form (chunk_length bytes))) in
+    else (if fits format_letters (take 4 bytes) then format_part Form at bytes else once 8 bytes (Passed Form (chunk_length bytes))) in
     let lettered : found ≡ format_part Form at bytes = rw letters refl in
     once_there 4 bytes found (omega arith) ∙ lettered ∙ headed ∙ e
 
@@ -161,7 +168,7 @@ format_told channels padding at (Plain speed group extra) few long short =
     let len : length bytes ≡ 8 + length contents + length contents % 2 = chunk_bytes_length format_letters contents padding refl in
     let size : size_of bytes ≡ length contents = number_at_field 4 4 (length contents) format_letters (contents ++ take (length contents % 2) (padding ∷ [])) refl (omega arith) in
     let told : coded at bytes ≡ Passed (Format channels 48000) (chunk_length bytes) =
-      plain_coded _ _ _ _ channels speed group at (extra ++ take (length contents % 2) (padding ∷ [])) (few_channels channels few) (readable_channels channels few) in
+    plain_coded _ _ _ _ channels speed group at (extra ++ take (length contents % 2) (padding ∷ [])) (few_channels channels few) (readable_channels channels few) in
     format_passed at bytes (Passed (Format channels 48000) (chunk_length bytes)) refl (omega (arith, len)) (omega (arith, size)) told
     ∙ ap (λ (n : ℕ). Passed (Format channels 48000) (8 + n + n % 2)) size ∙ ap (Passed (Format channels 48000)) (sym len)
 format_told channels padding at (Extensible speed group other extra) few long short =
@@ -170,7 +177,7 @@ format_told channels padding at (Extensible speed group other extra) few long sh
     let len : length bytes ≡ 8 + length contents + length contents % 2 = chunk_bytes_length format_letters contents padding refl in
     let size : size_of bytes ≡ length contents = number_at_field 4 4 (length contents) format_letters (contents ++ take (length contents % 2) (padding ∷ [])) refl (omega arith) in
     let told : coded at bytes ≡ Passed (Format channels 48000) (chunk_length bytes) =
-      extensible_coded _ _ _ _ channels speed group other at (extra ++ take (length contents % 2) (padding ∷ [])) (few_channels channels few) (readable_channels channels few) (omega (arith, size)) in
+    extensible_coded _ _ _ _ channels speed group other at (extra ++ take (length contents % 2) (padding ∷ [])) (few_channels channels few) (readable_channels channels few) (omega (arith, size)) in
     format_passed at bytes (Passed (Format channels 48000) (chunk_length bytes)) refl (omega (arith, len)) (omega (arith, size)) told
     ∙ ap (λ (n : ℕ). Passed (Format channels 48000) (8 + n + n % 2)) size ∙ ap (Passed (Format channels 48000)) (sym len)
 
@@ -201,9 +208,9 @@ spelling_read s is more =
     let head = data_letters ++ little_bytes 4 s.data_size in
     let form = riff ++ (little_bytes 4 s.file_size ++ wave) in
     let joined : (before ++ (described ++ (after ++ head))) ++ more ≡ before ++ (described ++ (after ++ (head ++ more))) =
-      append_assoc before (described ++ (after ++ head)) more ∙ ap (λ (xs : List ℕ). before ++ xs) (append_assoc described (after ++ head) more ∙ ap (λ (xs : List ℕ). described ++ xs) (append_assoc after head more)) in
+    append_assoc before (described ++ (after ++ head)) more ∙ ap (λ (xs : List ℕ). before ++ xs) (append_assoc described (after ++ head) more ∙ ap (λ (xs : List ℕ). described ++ xs) (append_assoc after head more)) in
     let total : length (form ++ (before ++ (described ++ (after ++ head)))) ≡ 12 + length before + length described + length after + 8 =
-      omega (arith, length-append before (described ++ (after ++ head)), length-append described (after ++ head), length-append after head) in
+    omega (arith, length-append before (described ++ (after ++ head)), length-append described (after ++ head), length-append after head) in
     let some : 0 < length described = omega (arith, chunk_bytes_length format_letters (format_contents s.channels s.description) s.padding refl) in
     ap (λ (bytes : List ℕ). read (form ++ bytes) 0 Nothing 0) joined
     ∙ passed_whole form (before ++ (described ++ (after ++ (head ++ more)))) Nothing Form 0 (form_told s.file_size) (omega arith)
@@ -211,14 +218,19 @@ spelling_read s is more =
     ∙ passed_whole described (after ++ (head ++ more)) Form format (12 + length before) (format_told s.channels s.padding (12 + length before) s.description is.one_or_two is.long is.short) some
     ∙ others_read s.after (head ++ more) format (12 + length before + length described) is.after_passed refl
     ∙ read_samples head more format (12 + length before + length described + length after) s.channels 48000 (declared s.data_size)
-        (data_told s.channels (12 + length before + length described + length after) s.data_size is.fits_size is.whole) (omega arith)
+    (data_told s.channels (12 + length before + length described + length after) s.data_size is.fits_size is.whole) (omega arith)
     ∙ ap (Started s.channels 48000 (declared s.data_size)) (sym total)
 
 -- the header that is written before the samples are known
 header_spelling : ℕ → Spelling
 header_spelling channels = record {
-  file_size = 0xFFFFFFFF; before = []; channels = channels; description = Plain (96000 * channels) (2 * channels) [];
-  padding = 0; after = []; data_size = 0xFFFFFFFF
+  file_size = 0xFFFFFFFF;
+  before = [];
+  channels = channels;
+  description = Plain (96000 * channels) (2 * channels) [];
+  padding = 0;
+  after = [];
+  data_size = 0xFFFFFFFF;
 }
 
 pub header_read : (channels : ℕ) → (channels ≡ 1) ⊎ (channels ≡ 2) → (more : List ℕ) → outcome (header channels ++ more) ≡ Started channels 48000 None 44
@@ -231,5 +243,5 @@ header_read channels few more =
       short = omega arith;
       after_passed = λ k d h. absurd (omega arith);
       fits_size = omega arith;
-      whole = inl refl
+      whole = inl refl;
     }) more

@@ -2,7 +2,6 @@
 -- the first fault.
 use Rattle.std.specs.Prelude.{ℕ, ℤ, zero, suc, ◌+◌, ◌-◌, ◌*◌, ◌%◌, Bool, true, false, ◌==◌, if◌then◌else◌, nat_le, List, [], ◌∷◌, length, take, drop, Option, Some, None}
 use Rattle.celt_base.specs.declared.status.Fault.{Fault}
-use Rattle.celt_base.specs.declared.status.FaultName.{FaultName}
 use Rattle.celt_base.specs.declared.status.FaultName.TheVariants.{NoData, DataTruncated}
 use Rattle.wav_edge.specs.declared.parts.Seen.{Seen}
 use Rattle.wav_edge.specs.declared.parts.Seen.TheVariants.{Nothing, Form, Format}

@@ -14,47 +14,40 @@ pub fn law_stays()
     ensures fault { (bytes more : List ℕ) (fault : Fault) → outcome bytes ≡ Faulty fault → outcome (bytes ++ more) ≡ Faulty fault }
     ensures samples { (bytes more : List ℕ) (channels rate : ℕ) (size : Option ℕ) (place : ℕ) →
         outcome bytes ≡ Started channels rate size place → outcome (bytes ++ more) ≡ Started channels rate size place }
-{
-}
+{}
 
 /// Samples that were found are of one channel or two, at 48 kHz, and begin behind bytes that are there.
 pub fn law_format()
     ensures { (bytes : List ℕ) (channels rate : ℕ) (size : Option ℕ) (place : ℕ) → outcome bytes ≡ Started channels rate size place →
         ((channels ≡ 1) ⊎ (channels ≡ 2)) × (rate ≡ 48000) × (place ≤ length bytes) }
-{
-}
+{}
 
 /// Two readers that were fed the same bytes, in whatever pieces, answer alike.
 pub fn law_readers_alike()
     ensures { (first second : HeaderReader) (bytes piece : List ℕ) → StandsFor first bytes → StandsFor second bytes →
         answer_to first piece ≡ answer_to second piece }
-{
-}
+{}
 
 /// A header as it is written gives its channels and its size, whatever follows it, and its samples begin
 /// where it ends.
 pub fn law_spelling()
     ensures { (s : Spelling) (more : List ℕ) → IsSpelling s →
         outcome (spelling_of s ++ more) ≡ Started s.channels 48000 (declared s.data_size) (length (spelling_of s)) }
-{
-}
+{}
 
 /// The header that is written before the samples are known gives its channels and no size.
 pub fn law_header()
     ensures { (channels : ℕ) (more : List ℕ) → (channels ≡ 1) ⊎ (channels ≡ 2) → outcome (header channels ++ more) ≡ Started channels 48000 None 44 }
-{
-}
+{}
 
 /// Bytes that follow the head of `data` are those of samples, up to the declared size.
 pub fn law_samples_follow()
     ensures { (bytes more : List ℕ) (channels rate : ℕ) (size : Option ℕ) (place : ℕ) → outcome bytes ≡ Started channels rate size place →
         samples (bytes ++ more) ≡ samples_of (within_size size (drop place bytes ++ more)) }
-{
-}
+{}
 
 /// Samples and their bytes give each other.
 pub fn law_inverse()
     ensures samples { (samples : List ℤ) → All (λ sample. FitsSigned w16 sample) samples → samples_of (bytes_of samples) ≡ samples }
     ensures bytes { (bytes : List ℕ) → All (λ byte. byte < 256) bytes → length bytes % 2 ≡ 0 → bytes_of (samples_of bytes) ≡ bytes }
-{
-}
+{}

@@ -8,7 +8,6 @@ pub mod laws;
 mod parts;
 pub mod reader;
 pub mod samples;
-pub mod written;
-
 #[cfg(test)]
 mod tests;
+pub mod written;

@@ -132,9 +132,16 @@ fn beginnings(rt: HostRuntime) {
             } else {
                 FaultName::DataTruncated
             };
-            assert_eq!(rt; read_in_pieces(&header[..n], step), Told::Refused(name, n as u64), "at {n} by {step}");
+            assert_eq!(rt;
+                read_in_pieces(&header[..n], step),
+                Told::Refused(name, n as u64),
+                "at {n} by {step}"
+            );
         }
-        assert_eq!(rt; read_in_pieces(&header, step), Told::Samples(2, 48_000, None, 44));
+        assert_eq!(rt;
+            read_in_pieces(&header, step),
+            Told::Samples(2, 48_000, None, 44)
+        );
     }
 }
 

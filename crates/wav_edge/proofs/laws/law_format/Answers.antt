@@ -1,5 +1,4 @@
-use Rattle.std.proofs.Common.{◌≡◌, ℕ, length, subst, Option}
-use Rattle.wav_edge.specs.Reading.{outcome}
+use Rattle.std.proofs.Common.{length, subst}
 use Rattle.wav_edge.specs.Reading.Outcome.{Started}
 use Rattle.wav_edge.proofs.LawLemmas.{IsSound, outcome_sound}
 use Rattle.wav_edge.proofs.ReaderLemmas.{readable_bounds, readable_cases}

@@ -1,6 +1,6 @@
-use Rattle.std.proofs.Common.{◌≡◌, ◌≤◌, ◌++◌, ℕ, List, length, drop, ap, subst, ◌∙◌, Option}
+use Rattle.std.proofs.Common.{◌≤◌, ◌++◌, ℕ, List, length, ap, subst, ◌∙◌}
 use Rattle.std.proofs.lemmas.List.{drop-append-le}
-use Rattle.wav_edge.specs.Reading.{Outcome, outcome, samples, sample_bytes, within_size}
+use Rattle.wav_edge.specs.Reading.{Outcome, samples, sample_bytes, within_size}
 use Rattle.wav_edge.specs.Reading.Outcome.{Started}
 use Rattle.wav_edge.specs.Samples.{samples_of}
 use Rattle.wav_edge.proofs.LawLemmas.{is_decided, outcome_stays, IsSound, outcome_sound}

@@ -1,5 +1,4 @@
-use Rattle.std.proofs.Common.{◌≡◌, true, refl, ap, ◌∙◌}
-use Rattle.wav_edge.specs.Reading.{outcome}
+use Rattle.std.proofs.Common.{ap, ◌∙◌}
 use Rattle.wav_edge.proofs.LawLemmas.{is_decided, outcome_stays}
 use Rattle.wav_edge.proofs.laws.law_stays.Goals as goal
 

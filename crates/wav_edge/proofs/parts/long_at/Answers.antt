@@ -1,4 +1,4 @@
-use Rattle.std.proofs.Common.{◌≡◌, ap, ◌∙◌, drop}
+use Rattle.std.proofs.Common.{ap, ◌∙◌}
 use Rattle.byteorder.specs.Endian.{little_number}
 use Rattle.wav_edge.proofs.FieldLemmas.{number_at-drop}
 use Rattle.wav_edge.proofs.parts.long_at.Goals as goal

@@ -1,4 +1,4 @@
-use Rattle.std.proofs.Common.{◌≡◌, ℕ, ℤ, pos, ◌+◌, ◌*◌, ◌≤◌, ◌<◌, List, [], ◌∷◌, ◌++◌, length, take, drop, get_or, refl, sym, ap, ◌∙◌, arith, to_z, of_z, FitsSigned, rules}
+use Rattle.std.proofs.Common.{◌≡◌, ℕ, ℤ, pos, List, [], ◌∷◌, get_or, ap, ◌∙◌, arith, of_z, FitsSigned, rules}
 use Rattle.std.specs.Int.{w16, to_le_bytes}
 use Rattle.std.proofs.Math.Facts.{to_z-of_z}
 use Rattle.wav_edge.proofs.SampleLemmas.{bytes_put, all_bytes_put}

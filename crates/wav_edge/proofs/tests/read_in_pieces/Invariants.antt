@@ -7,7 +7,7 @@ invariant-loop-next l = record {
   within : l.next ≤ length l.bytes;
   fed : bytes_fed l.reader ≡ l.next;
   unread : has_started l.reader ≡ false;
-  sound : fault_of l.reader ≡ None
+  sound : fault_of l.reader ≡ None;
 }
 
 abbrev pub decreases-loop-next : goal.decreases-loop-next

@@ -1,4 +1,4 @@
-use Rattle.std.proofs.Common.{◌≡◌, ◌<◌, ℕ, ap, ◌∙◌, length, arith, ◌≤◌, inl, inr}
+use Rattle.std.proofs.Common.{ap, ◌∙◌, length, arith, ◌≤◌, inl, inr}
 use Rattle.wav_edge.specs.declared.parts.Seen.{Seen}
 use Rattle.wav_edge.specs.Cursors.{resumed}
 use Rattle.wav_edge.specs.Reading.{is_between}

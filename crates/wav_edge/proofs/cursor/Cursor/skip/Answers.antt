@@ -1,4 +1,4 @@
-use Rattle.std.proofs.Common.{◌≡◌, ℕ, ◌+◌, ◌-◌, ◌≤◌, ◌<◌, ◌*◌, List, ◌++◌, length, take, refl, sym, ap, ◌∙◌, arith}
+use Rattle.std.proofs.Common.{◌≡◌, ◌+◌, ◌-◌, ◌++◌, length, take, refl, sym, ◌∙◌, arith}
 use Rattle.wav_edge.specs.Cursors.{resumed}
 use Rattle.wav_edge.specs.Reading.{read}
 use Rattle.wav_edge.proofs.ReadLemmas.{read_skip, no_length}

@@ -1,7 +1,7 @@
-use Rattle.std.proofs.Common.{◌≡◌, ℕ, ◌+◌, ◌-◌, ◌≤◌, ◌<◌, ◌*◌, List, [], ◌∷◌, ◌++◌, length, take, refl, sym, ap, subst, ◌∙◌, arith, slice_set, true}
+use Rattle.std.proofs.Common.{ℕ, ◌+◌, ◌-◌, ◌≤◌, ◌<◌, List, ◌++◌, length, take, sym, ap, subst, ◌∙◌, arith}
 use Rattle.wav_edge.specs.declared.parts.Part.{Part}
-use Rattle.wav_edge.specs.declared.parts.Part.TheVariants.{More, Passed, Samples, Broken}
-use Rattle.wav_edge.specs.Parts.{part_at, is_more, can_follow}
+use Rattle.wav_edge.specs.declared.parts.Part.TheVariants.{Passed, Samples}
+use Rattle.wav_edge.specs.Parts.{part_at, is_more}
 use Rattle.wav_edge.specs.Cursors.{resumed}
 use Rattle.wav_edge.specs.Reading.{read}
 use Rattle.wav_edge.proofs.PartLemmas.{part_told, IsTold, Beyond}

@@ -1,4 +1,4 @@
-use Rattle.std.proofs.Common.{◌≡◌, ℕ, true, false, sym, ap, ◌∙◌, Option, Some}
+use Rattle.std.proofs.Common.{true, false, sym, ap, ◌∙◌, Option, Some}
 use Rattle.celt_base.specs.declared.status.Fault.{Fault}
 use Rattle.celt_base.specs.declared.status.FaultName.{FaultName}
 use Rattle.wav_edge.proofs.ReaderLemmas.{ends_at}

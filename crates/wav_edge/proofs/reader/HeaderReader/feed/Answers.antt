@@ -1,10 +1,7 @@
-use Rattle.std.proofs.Common.{◌≡◌, ℕ, ◌-◌, Bool, List, [], ◌++◌, length, refl, sym, ap, ◌∙◌, Option}
-use Rattle.celt_base.specs.declared.status.Fault.{Fault}
-use Rattle.wav_edge.specs.declared.reader.Header.{Header}
+use Rattle.std.proofs.Common.{ℕ, ◌-◌, [], length, sym, ap, ◌∙◌}
 use Rattle.wav_edge.specs.declared.reader.Header.TheVariants.{Data}
-use Rattle.wav_edge.specs.Cursors.{resumed, resumed_state}
-use Rattle.wav_edge.specs.Reading.{Outcome, outcome}
-use Rattle.wav_edge.specs.Reading.Outcome.{Unfinished, Faulty, Started}
+use Rattle.wav_edge.specs.Cursors.{resumed}
+use Rattle.wav_edge.specs.Reading.Outcome.{Faulty, Started}
 use Rattle.wav_edge.specs.Readers.{answered}
 use Rattle.wav_edge.proofs.ReaderLemmas.{waits, comes_to, said_by, step_readable, readable_bounds}
 use Rattle.wav_edge.proofs.reader.HeaderReader.feed.Goals as goal
