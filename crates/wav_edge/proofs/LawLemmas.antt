@@ -5,7 +5,7 @@ use Rattle.wav_edge.specs.declared.parts.Seen.TheVariants.{Nothing}
 use Rattle.wav_edge.specs.declared.parts.Part.{Part}
 use Rattle.wav_edge.specs.declared.parts.Part.TheVariants.{More, Passed, Samples, Broken}
 use Rattle.wav_edge.specs.Parts.{is_more, is_readable, can_follow, part_at}
-use Rattle.wav_edge.specs.Reading.{Outcome, followed, read, outcome}
+use Rattle.wav_edge.specs.Reading.{Outcome, IsHeaderFault, followed, read, outcome}
 use Rattle.wav_edge.specs.Reading.Outcome.{Unfinished, Faulty, Started}
 use Rattle.wav_edge.proofs.PartLemmas.{IsTold, part_told}
 use Rattle.wav_edge.proofs.ReadLemmas.{told_stays}
@@ -40,10 +40,11 @@ pub outcome_stays : (bytes more : List ℕ) → is_decided (outcome bytes) ≡ t
 unfolding outcome
 outcome_stays bytes more decided = read_stays bytes more 0 Nothing 0 decided
 
--- the format of samples is one that can be read, and they begin behind bytes that are there
+-- the format of samples is one that can be read, and they begin behind bytes that are there; a fault is one
+-- of the two that come before samples
 abbrev pub IsSound : ℕ → Outcome → Type 0
 IsSound end (Unfinished between) = Unit {0}
-IsSound end (Faulty fault) = Unit {0}
+IsSound end (Faulty fault) = IsHeaderFault fault.name
 IsSound end (Started channels rate size place) = (is_readable channels rate ≡ true) × (place ≤ end)
 
 followed_sound : (at n : ℕ) (p : Part) (next : ℕ → Seen → Outcome) → IsTold (suc n) p → ((left : ℕ) (seen : Seen) → can_follow seen ≡ true → IsSound (at + 1 + n) (next left seen)) →
@@ -51,7 +52,7 @@ followed_sound : (at n : ℕ) (p : Part) (next : ℕ → Seen → Outcome) → I
 followed_sound at n More next told sound = tt
 followed_sound at n (Passed seen len) next told sound = sound (len - 1) seen told
 followed_sound at n (Samples channels rate size) next told sound = let eight : 8 ≤ suc n = told.0 in (told.1, omega arith)
-followed_sound at n (Broken fault) next told sound = tt
+followed_sound at n (Broken fault) next told sound = told
 
 read_sound : (bytes : List ℕ) (left : ℕ) (seen : Seen) (at : ℕ) → can_follow seen ≡ true → IsSound (at + length bytes) (read bytes left seen at)
 unfolding read

@@ -2,12 +2,14 @@
 use Rattle.std.proofs.Common.{◌≡◌, ℕ, zero, suc, ◌+◌, ◌*◌, ◌%◌, ◌≤◌, ◌<◌, ◌⊎◌, inl, inr, Bool, true, false, nat_eq, ◌&&◌, IsTrue, List, [], ◌∷◌, ◌++◌, length, take, drop, nat_le, nat_lt, refl, ap, ◌∙◌, arith, if◌then◌else◌, ◌==◌, Some, None, length-append}
 use Rattle.std.proofs.lemmas.Bool.Decides.{nat_tests}
 use Rattle.std.proofs.lemmas.List.{take-append-le, drop-append-le, drop_all, length-drop}
+use Rattle.celt_base.specs.declared.status.Fault.{Fault}
 use Rattle.wav_edge.specs.declared.parts.Seen.{Seen}
 use Rattle.wav_edge.specs.declared.parts.Seen.TheVariants.{Nothing, Form, Format}
 use Rattle.wav_edge.specs.declared.parts.Part.{Part}
 use Rattle.wav_edge.specs.declared.parts.Part.TheVariants.{More, Passed, Samples, Broken}
 use Rattle.wav_edge.specs.Fields.{number_at, fits, riff, wave, format_letters, data_letters}
 use Rattle.wav_edge.specs.Parts.{is_readable, can_follow, is_more, once, bad_riff, unsupported, form_part, size_of, chunk_length, sized, data_part, is_supported, described, coded, format_part, chunk_part, part_at}
+use Rattle.wav_edge.specs.Reading.{IsHeaderFault}
 use Rattle.wav_edge.proofs.FieldLemmas.{number_at-append}
 
 -- a format that can be read has one channel or two
@@ -281,12 +283,12 @@ part_settles Form at xs ys = chunk_settles Form at xs ys
 part_settles (Format channels rate) at xs ys = chunk_settles (Format channels rate) at xs ys
 
 -- what k bytes of a part can say: nothing, of fewer than 34; the format of a part that is passed over can be
--- read; the samples follow eight bytes
+-- read; the samples follow eight bytes; a fault is BadRiff or UnsupportedFormat
 abbrev pub IsTold : ℕ → Part → Type 0
 IsTold k More = k < 34
 IsTold k (Passed seen len) = can_follow seen ≡ true
 IsTold k (Samples channels rate size) = (8 ≤ k) × (is_readable channels rate ≡ true)
-IsTold k (Broken fault) = Unit {0}
+IsTold k (Broken fault) = IsHeaderFault fault.name
 
 told_once : (n : ℕ) (bytes : List ℕ) (p : Part) → n ≤ 34 → (n ≤ length bytes → IsTold (length bytes) p) → IsTold (length bytes) (once n bytes p)
 told_once n bytes p small told =

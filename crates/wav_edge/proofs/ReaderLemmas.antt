@@ -1,5 +1,5 @@
 -- A reading under way, seen as an answer.
-use Rattle.std.proofs.Common.{◌≡◌, ℕ, Bool, List, [], ◌++◌, length, take, refl, ap, sym, ◌∙◌, true, false, Option, None, ◌≤◌, ◌⊎◌, inl, inr, nat_eq, arith}
+use Rattle.std.proofs.Common.{◌≡◌, ℕ, Bool, List, [], ◌++◌, length, take, refl, ap, sym, ◌∙◌, true, false, Option, None, ◌≤◌, ◌<◌, ◌⊎◌, inl, inr, nat_eq, arith}
 use Rattle.std.proofs.lemmas.Bool.Decides.{nat_tests}
 use Rattle.wav_edge.specs.Parts.{is_readable}
 use Rattle.std.proofs.lemmas.List.{append-nil}
@@ -8,7 +8,7 @@ use Rattle.wav_edge.specs.declared.cursor.State.{State}
 use Rattle.wav_edge.specs.declared.cursor.State.TheVariants.{Reading, Started, Stopped}
 use Rattle.wav_edge.specs.declared.reader.Header.TheVariants.{Need}
 use Rattle.wav_edge.specs.declared.reader.HeaderReader.{HeaderReader}
-use Rattle.wav_edge.specs.Cursors.{resumed, resumed_state, is_started, stopped_by, EndsBetween, IsStep}
+use Rattle.wav_edge.specs.Cursors.{resumed, resumed_state, is_started, stopped_by, EndsBetween, IsStep, next_place}
 use Rattle.wav_edge.specs.Readers.{StandsFor, answered, has_started, fault_of}
 use Rattle.wav_edge.specs.Reading.{Outcome, outcome, end_fault, fault_at_end}
 use Rattle.wav_edge.specs.Reading.Outcome.{Unfinished}
@@ -48,6 +48,13 @@ pub step_readable : (state : State) (n channels rate : ℕ) (size : Option ℕ) 
 step_readable (Reading cursor) n channels rate size place e step = step.2
 step_readable (Started c r s p) n channels rate size place e step = cc
 step_readable (Stopped fault) n channels rate size place e step = cc
+
+-- samples that a step found begin behind the bytes before it
+pub step_begins : (state : State) (fed n channels rate : ℕ) (size : Option ℕ) (place : ℕ) → is_started state ≡ false → next_place state fed ≡ fed →
+    IsStep state n (Started channels rate size place) → fed < place
+step_begins (Reading cursor) fed n channels rate size place e placed step = omega (arith, placed, step.0)
+step_begins (Started c r s p) fed n channels rate size place e placed step = cc
+step_begins (Stopped fault) fed n channels rate size place e placed step = cc
 
 pub readable_bounds : (channels rate : ℕ) → is_readable channels rate ≡ true → (1 ≤ channels) × (channels ≤ 2) × (rate ≡ 48000)
 unfolding is_readable

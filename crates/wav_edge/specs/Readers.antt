@@ -1,5 +1,5 @@
 -- What a reader of headers stands for, and its answers.
-use Rattle.std.specs.Prelude.{◌≡◌, ◌≤◌, ℕ, ◌-◌, Bool, true, false, List, ◌++◌, length, Option, Some, None}
+use Rattle.std.specs.Prelude.{◌≡◌, ◌≤◌, ◌<◌, ◌+◌, ℕ, ◌-◌, Bool, true, false, List, ◌++◌, length, Option, Some, None}
 use Rattle.celt_base.specs.declared.status.Fault.{Fault}
 use Rattle.wav_edge.specs.declared.reader.HeaderReader.{HeaderReader}
 use Rattle.wav_edge.specs.declared.reader.Header.{Header}
@@ -41,16 +41,23 @@ IsPlayable Need = Unit {0}
 IsPlayable (Data channels rate size used) = (1 ≤ channels) × (channels ≤ 2) × (rate ≡ 48000)
 IsPlayable (Header.Fault fault) = Unit {0}
 
--- parts of an answer: whether it is Data, how many bytes of the piece the header takes there, and the fault
+-- a definite answer says what all bytes give, where `before` of them came in earlier pieces
+abbrev pub Gives : ℕ → Header → Outcome → Type 0
+Gives before Need given = Unit {0}
+Gives before (Data channels rate size used) given = given ≡ Started channels rate size (before + used)
+Gives before (Header.Fault fault) given = given ≡ Faulty fault
+
+-- the header ends inside a piece of n bytes
+abbrev pub EndsWithin : ℕ → Header → Type 0
+EndsWithin n Need = Unit {0}
+EndsWithin n (Data channels rate size used) = (0 < used) × (used ≤ n)
+EndsWithin n (Header.Fault fault) = Unit {0}
+
+-- whether an answer is Data, and the fault that it names
 abbrev pub is_data : Header → Bool
 is_data Need = false
 is_data (Data channels rate size used) = true
 is_data (Header.Fault fault) = false
-
-abbrev pub used_of : Header → ℕ
-used_of Need = 0
-used_of (Data channels rate size used) = used
-used_of (Header.Fault fault) = 0
 
 abbrev pub fault_in : Header → Option Fault
 fault_in Need = None

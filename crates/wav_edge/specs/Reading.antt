@@ -2,7 +2,8 @@
 -- the first fault.
 use Rattle.std.specs.Prelude.{ℕ, ℤ, zero, suc, ◌+◌, ◌-◌, ◌*◌, ◌%◌, Bool, true, false, ◌==◌, if◌then◌else◌, nat_le, List, [], ◌∷◌, length, take, drop, Option, Some, None}
 use Rattle.celt_base.specs.declared.status.Fault.{Fault}
-use Rattle.celt_base.specs.declared.status.FaultName.TheVariants.{NoData, DataTruncated}
+use Rattle.celt_base.specs.declared.status.FaultName.{FaultName}
+use Rattle.celt_base.specs.declared.status.FaultName.TheVariants.{BadRiff, UnsupportedFormat, NoData, DataTruncated}
 use Rattle.wav_edge.specs.declared.parts.Seen.{Seen}
 use Rattle.wav_edge.specs.declared.parts.Seen.TheVariants.{Nothing, Form, Format}
 use Rattle.wav_edge.specs.declared.parts.Part.{Part}
@@ -38,6 +39,12 @@ unfoldable pub read : List ℕ → ℕ → Seen → ℕ → Outcome
 read [] left seen at = Unfinished (is_between left seen)
 read (byte ∷ bytes) (suc left) seen at = read bytes left seen (at + 1)
 read (byte ∷ bytes) zero seen at = followed at (part_at seen at (byte ∷ bytes)) (λ left' seen'. read bytes left' seen' (at + 1))
+
+-- the faults that come before the samples
+abbrev pub IsHeaderFault : FaultName → Type 0
+IsHeaderFault BadRiff = Unit {0}
+IsHeaderFault (UnsupportedFormat codec bits channels rate) = Unit {0}
+IsHeaderFault _ = ⊥
 
 -- the bytes of a file so far
 unfoldable pub outcome : List ℕ → Outcome

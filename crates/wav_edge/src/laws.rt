@@ -3,7 +3,7 @@ ghost use Rattle.std.specs.Prelude.{◌≡◌, ◌≤◌, ◌<◌, ◌⊎◌, �
 ghost use Rattle.std.specs.Int.{w16};
 ghost use Rattle.celt_base.specs.declared.status.Fault.{Fault};
 ghost use Rattle.wav_edge.specs.declared.reader.HeaderReader.{HeaderReader};
-ghost use Rattle.wav_edge.specs.Reading.{outcome, samples, within_size};
+ghost use Rattle.wav_edge.specs.Reading.{outcome, samples, within_size, IsHeaderFault};
 ghost use Rattle.wav_edge.specs.Reading.Outcome.{Faulty, Started};
 ghost use Rattle.wav_edge.specs.Readers.{StandsFor, answer_to};
 ghost use Rattle.wav_edge.specs.Samples.{samples_of, bytes_of};
@@ -16,9 +16,11 @@ pub fn law_stays()
         outcome bytes ≡ Started channels rate size place → outcome (bytes ++ more) ≡ Started channels rate size place }
 {}
 
-/// Samples that were found are of one channel or two, at 48 kHz, and begin behind bytes that are there.
+/// Samples that were found are of one channel or two, at 48 kHz, and begin behind bytes that are there. A
+/// fault that was found is BadRiff or UnsupportedFormat.
 pub fn law_format()
-    ensures { (bytes : List ℕ) (channels rate : ℕ) (size : Option ℕ) (place : ℕ) → outcome bytes ≡ Started channels rate size place →
+    ensures fault { (bytes : List ℕ) (fault : Fault) → outcome bytes ≡ Faulty fault → IsHeaderFault fault.name }
+    ensures samples { (bytes : List ℕ) (channels rate : ℕ) (size : Option ℕ) (place : ℕ) → outcome bytes ≡ Started channels rate size place →
         ((channels ≡ 1) ⊎ (channels ≡ 2)) × (rate ≡ 48000) × (place ≤ length bytes) }
 {}
 

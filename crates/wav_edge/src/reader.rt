@@ -40,7 +40,7 @@ pub struct HeaderReader {
 impl HeaderReader {
     ghost use Rattle.std.specs.Prelude.{◌≡◌, ◌≤◌, ◌+◌, ◌^◌, ◌++◌, ℕ, List, [], length, false, None, Some, IfSome, ◌↔◌};
     ghost use Rattle.wav_edge.specs.Reading.{outcome, end_fault};
-    ghost use Rattle.wav_edge.specs.Readers.{StandsFor, bytes_fed, has_started, fault_of, answered, answer_to, IsPlayable, is_data, used_of, fault_in};
+    ghost use Rattle.wav_edge.specs.Readers.{StandsFor, bytes_fed, has_started, fault_of, answered, answer_to, IsPlayable, Gives, EndsWithin, is_data, fault_in};
 
     /// Before the first byte of a file.
     pub fn new() -> HeaderReader
@@ -65,7 +65,8 @@ impl HeaderReader {
         ensures answer { (bytes : List ℕ) → StandsFor self.old bytes → result ≡ answered (length bytes) (outcome (bytes ++ piece.now)) }
         ensures said { result ≡ answer_to self.old piece.now }
         ensures playable { IsPlayable result }
-        ensures used { used_of result ≤ length piece.now }
+        ensures gives { (bytes : List ℕ) → StandsFor self.old bytes → Gives (length bytes) result (outcome (bytes ++ piece.now)) }
+        ensures used { EndsWithin (length piece.now) result }
         ensures again { IfSome (fault_of self.old) (λ fault. result ≡ Header.Fault fault) }
         ensures fed { bytes_fed self.new ≡ bytes_fed self.old + length piece.now }
         ensures started { has_started self.new ≡ is_data result }

@@ -1,9 +1,9 @@
-use Rattle.std.proofs.Common.{ℕ, ◌-◌, [], length, sym, ap, ◌∙◌}
+use Rattle.std.proofs.Common.{◌<◌, arith, ℕ, ◌-◌, [], length, sym, ap, ◌∙◌}
 use Rattle.wav_edge.specs.declared.reader.Header.TheVariants.{Data}
 use Rattle.wav_edge.specs.Cursors.{resumed}
 use Rattle.wav_edge.specs.Reading.Outcome.{Faulty, Started}
 use Rattle.wav_edge.specs.Readers.{answered}
-use Rattle.wav_edge.proofs.ReaderLemmas.{waits, comes_to, said_by, step_readable, readable_bounds}
+use Rattle.wav_edge.proofs.ReaderLemmas.{waits, comes_to, said_by, step_readable, step_begins, readable_bounds}
 use Rattle.wav_edge.proofs.reader.HeaderReader.feed.Goals as goal
 
 pub returns-in-Reading-clause-said : goal.returns-in-Reading-clause-said
@@ -42,3 +42,15 @@ returns-in-Started-clause-answer c = λ bytes stands.
 pub returns-in-Stopped-clause-answer : goal.returns-in-Stopped-clause-answer
 returns-in-Stopped-clause-answer c = λ bytes stands.
     sym (ap (answered (length bytes)) (comes_to c.args.self.now bytes c.args.piece.now (Faulty c.in-Stopped.fault) stands (c.in-Stopped.ensures.resumes [])))
+
+pub returns-in-Started-clause-gives : goal.returns-in-Started-clause-gives
+returns-in-Started-clause-gives c = λ bytes stands.
+    let reader = c.args.self.now in
+    let s = c.in-Started in
+    let begins : reader.fed < s.place = step_begins reader.state reader.fed (length c.args.piece.now) s.channels s.rate s.size s.place c.requires.unread reader.placed c.in-Started.ensures.step in
+    comes_to reader bytes c.args.piece.now (Started s.channels s.rate s.size s.place) stands (c.in-Started.ensures.resumes [])
+    ∙ ap (Started s.channels s.rate s.size) (omega (arith, stands.count))
+
+pub returns-in-Stopped-clause-gives : goal.returns-in-Stopped-clause-gives
+returns-in-Stopped-clause-gives c = λ bytes stands.
+    comes_to c.args.self.now bytes c.args.piece.now (Faulty c.in-Stopped.fault) stands (c.in-Stopped.ensures.resumes [])
