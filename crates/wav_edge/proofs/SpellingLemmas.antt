@@ -1,25 +1,26 @@
 -- The form as it is written is read as what was meant.
-use Rattle.std.proofs.Common.{◌≡◌, ◌⊎◌, inl, inr, true, false, None, if◌then◌else◌, nat_lt, All, ◌-◌, take, drop, length-append, ℕ, suc, ◌+◌, ◌*◌, ◌/◌, ◌%◌, ◌^◌, ◌<◌, ◌≤◌, List, [], ◌∷◌, ◌++◌, length, get_or, refl, sym, ap, ◌∙◌, arith}
+use Rattle.std.proofs.Common.{◌≡◌, ◌≢◌, ◌⊎◌, inl, inr, true, false, Some, None, if◌then◌else◌, nat_lt, All, ◌-◌, take, drop, length-append, ℕ, suc, ◌+◌, ◌*◌, ◌/◌, ◌%◌, ◌^◌, ◌<◌, ◌≤◌, List, [], ◌∷◌, ◌++◌, length, get_or, refl, sym, ap, ◌∙◌, arith}
 use Rattle.byteorder.specs.Endian.{little_bytes}
 use Rattle.byteorder.specs.Endian.{little_number}
 use Rattle.std.specs.List.{flat_map}
 use Rattle.std.proofs.lemmas.Bool.Decides.{nat_tests}
 use Rattle.byteorder.specs.Numbers.{little_number-reads_back, length-bytes_low_first}
 use Rattle.std.proofs.Math.Seq.{drop-append_seam, take-append_seam}
-use Rattle.std.proofs.lemmas.List.{length-take-le, append_assoc}
+use Rattle.std.proofs.lemmas.List.{length-take-le, append_assoc, append-nil}
+use Rattle.celt_base.specs.declared.status.FaultName.TheVariants.{BadRiff, NoData}
 use Rattle.wav_edge.specs.declared.parts.Seen.{Seen}
 use Rattle.wav_edge.specs.declared.parts.Seen.TheVariants.{Nothing, Form, Format}
 use Rattle.wav_edge.specs.declared.parts.Part.{Part}
 use Rattle.wav_edge.specs.declared.parts.Part.TheVariants.{Passed, Samples}
 use Rattle.wav_edge.specs.Fields.{number_at, fits, riff, wave, format_letters, data_letters}
 use Rattle.wav_edge.specs.Parts.{is_readable, is_supported, once, bad_riff, form_part, described, coded, format_part, data_part, sized, size_of, chunk_length, chunk_part, part_at}
-use Rattle.wav_edge.specs.Reading.{is_between, read, outcome}
+use Rattle.wav_edge.specs.Reading.{Outcome, is_between, read, broken_at, outcome, fault_at_end, end_fault}
 use Rattle.wav_edge.specs.Reading.Outcome.{Started}
-use Rattle.wav_edge.specs.Spellings.{chunk_bytes, Chunk, IsChunk, spelled, Description, format_contents, IsLong, Spelling, IsSpelling, spelling_of, declared, header}
+use Rattle.wav_edge.specs.Spellings.{chunk_bytes, Chunk, IsChunk, spelled, Description, format_contents, IsLong, Opening, IsOpening, form_bytes, opening_bytes, IsDataSize, declared, header}
 use Rattle.wav_edge.specs.Spellings.Description.{Plain, Extensible}
 use Rattle.wav_edge.proofs.FieldLemmas.{number_at-drop}
 use Rattle.wav_edge.proofs.PartLemmas.{once_there}
-use Rattle.wav_edge.proofs.ReadLemmas.{read_passed, read_samples}
+use Rattle.wav_edge.proofs.ReadLemmas.{read_passed, read_samples, read_broken}
 
 -- the header byte by byte
 pub header_bytes : (channels : ℕ) (s g : List ℕ) → channels < 256 → s ≡ little_bytes 4 (96000 * channels) → g ≡ little_bytes 2 (2 * channels) →
@@ -197,51 +198,103 @@ form_told : (size : ℕ) → part_at Nothing 0 (riff ++ (little_bytes 4 size ++ 
 unfolding part_at form_part fits
 form_told size = refl
 
--- a header that is written gives its channels and its size, whatever follows it
-pub spelling_read : (s : Spelling) → IsSpelling s → (more : List ℕ) → outcome (spelling_of s ++ more) ≡ Started s.channels 48000 (declared s.data_size) (length (spelling_of s))
-unfolding outcome spelling_of
-spelling_read s is more =
-    let format = Format s.channels 48000 in
-    let before = flat_map spelled s.before in
-    let described = chunk_bytes format_letters (format_contents s.channels s.description) s.padding in
-    let after = flat_map spelled s.after in
-    let head = data_letters ++ little_bytes 4 s.data_size in
-    let form = riff ++ (little_bytes 4 s.file_size ++ wave) in
-    let joined : (before ++ (described ++ (after ++ head))) ++ more ≡ before ++ (described ++ (after ++ (head ++ more))) =
-    append_assoc before (described ++ (after ++ head)) more ∙ ap (λ (xs : List ℕ). before ++ xs) (append_assoc described (after ++ head) more ∙ ap (λ (xs : List ℕ). described ++ xs) (append_assoc after head more)) in
-    let total : length (form ++ (before ++ (described ++ (after ++ head)))) ≡ 12 + length before + length described + length after + 8 =
-    omega (arith, length-append before (described ++ (after ++ head)), length-append described (after ++ head), length-append after head) in
-    let some : 0 < length described = omega (arith, chunk_bytes_length format_letters (format_contents s.channels s.description) s.padding refl) in
+-- what stands before `data` is passed over, and the format stays
+opening_read : (o : Opening) → IsOpening o → (more : List ℕ) → outcome (opening_bytes o ++ more) ≡ read more 0 (Format o.channels 48000) (length (opening_bytes o))
+unfolding outcome opening_bytes
+opening_read o is more =
+    let format = Format o.channels 48000 in
+    let before = flat_map spelled o.before in
+    let described = chunk_bytes format_letters (format_contents o.channels o.description) o.padding in
+    let after = flat_map spelled o.after in
+    let form = form_bytes o.file_size in
+    let joined : (before ++ (described ++ after)) ++ more ≡ before ++ (described ++ (after ++ more)) =
+    append_assoc before (described ++ after) more ∙ ap (λ (xs : List ℕ). before ++ xs) (append_assoc described after more) in
+    let total : length (form ++ (before ++ (described ++ after))) ≡ 12 + length before + length described + length after =
+    omega (arith, length-append before (described ++ after), length-append described after) in
+    let some : 0 < length described = omega (arith, chunk_bytes_length format_letters (format_contents o.channels o.description) o.padding refl) in
     ap (λ (bytes : List ℕ). read (form ++ bytes) 0 Nothing 0) joined
-    ∙ passed_whole form (before ++ (described ++ (after ++ (head ++ more)))) Nothing Form 0 (form_told s.file_size) (omega arith)
-    ∙ others_read s.before (described ++ (after ++ (head ++ more))) Form 12 is.before_passed refl
-    ∙ passed_whole described (after ++ (head ++ more)) Form format (12 + length before) (format_told s.channels s.padding (12 + length before) s.description is.one_or_two is.long is.short) some
-    ∙ others_read s.after (head ++ more) format (12 + length before + length described) is.after_passed refl
-    ∙ read_samples head more format (12 + length before + length described + length after) s.channels 48000 (declared s.data_size)
-    (data_told s.channels (12 + length before + length described + length after) s.data_size is.fits_size is.whole) (omega arith)
-    ∙ ap (Started s.channels 48000 (declared s.data_size)) (sym total)
+    ∙ passed_whole form (before ++ (described ++ (after ++ more))) Nothing Form 0 (form_told o.file_size) (omega arith)
+    ∙ others_read o.before (described ++ (after ++ more)) Form 12 is.before_passed refl
+    ∙ passed_whole described (after ++ more) Form format (12 + length before) (format_told o.channels o.padding (12 + length before) o.description is.one_or_two is.long is.short) some
+    ∙ others_read o.after more format (12 + length before + length described) is.after_passed refl
+    ∙ ap (read more 0 format) (sym total)
+
+-- a header that is written gives its channels and its size, whatever follows it
+pub spelling_read : (o : Opening) (size : ℕ) (more : List ℕ) → IsOpening o → size < 2 ^ 32 → IsDataSize o.channels size →
+    outcome (opening_bytes o ++ (data_letters ++ (little_bytes 4 size ++ more))) ≡ Started o.channels 48000 (declared size) (length (opening_bytes o) + 8)
+spelling_read o size more is small whole =
+    let at = length (opening_bytes o) in
+    opening_read o is (data_letters ++ (little_bytes 4 size ++ more))
+    ∙ read_samples (data_letters ++ little_bytes 4 size) more (Format o.channels 48000) at o.channels 48000 (declared size) (data_told o.channels at size small whole) (omega arith)
+
+-- a size that is no multiple of a group
+sized_half : (channels rate at size : ℕ) → size ≢ 0xFFFFFFFF → size % (2 * channels) ≢ 0 → sized channels rate at size ≡ bad_riff (at + 4)
+unfolding sized
+sized_half channels rate at size bounded half = grind (arith, nat_tests)
+
+half_told : (channels at size : ℕ) → size < 2 ^ 32 → size ≢ 0xFFFFFFFF → size % (2 * channels) ≢ 0 →
+    part_at (Format channels 48000) at (data_letters ++ little_bytes 4 size) ≡ bad_riff (at + 4)
+unfolding part_at chunk_part data_part fits
+half_told channels at size small bounded half =
+    let field : size_of (data_letters ++ (little_bytes 4 size ++ [])) ≡ size = number_at_field 4 4 size data_letters [] refl (omega arith) in
+    ap (sized channels 48000 at) field ∙ sized_half channels 48000 at size bounded half
+
+pub half_read : (o : Opening) (size : ℕ) (more : List ℕ) → IsOpening o → size < 2 ^ 32 → size ≢ 0xFFFFFFFF → size % (2 * o.channels) ≢ 0 →
+    outcome (opening_bytes o ++ (data_letters ++ (little_bytes 4 size ++ more))) ≡ broken_at (length (opening_bytes o) + 4)
+half_read o size more is small bounded half =
+    let at = length (opening_bytes o) in
+    opening_read o is (data_letters ++ (little_bytes 4 size ++ more))
+    ∙ read_broken (data_letters ++ little_bytes 4 size) more (Format o.channels 48000) at (record { name = BadRiff; at = at + 4 }) (half_told o.channels at size small bounded half) (omega arith)
+
+-- a second `fmt `
+second_told : (channels at : ℕ) → part_at (Format channels 48000) at format_letters ≡ bad_riff at
+unfolding part_at chunk_part format_part fits
+second_told channels at = refl
+
+pub second_read : (o : Opening) (more : List ℕ) → IsOpening o → outcome (opening_bytes o ++ (format_letters ++ more)) ≡ broken_at (length (opening_bytes o))
+second_read o more is =
+    let at = length (opening_bytes o) in
+    opening_read o is (format_letters ++ more)
+    ∙ read_broken format_letters more (Format o.channels 48000) at (record { name = BadRiff; at = at }) (second_told o.channels at) (omega arith)
+
+-- `data` before `fmt `
+early_told : (at : ℕ) → part_at Form at data_letters ≡ bad_riff at
+unfolding part_at chunk_part data_part fits
+early_told at = refl
+
+pub early_read : (file_size : ℕ) (before : List Chunk) (more : List ℕ) → All (λ chunk. IsChunk chunk) before →
+    outcome (form_bytes file_size ++ (flat_map spelled before ++ (data_letters ++ more))) ≡ broken_at (12 + length (flat_map spelled before))
+unfolding outcome
+early_read file_size before more passed =
+    let at = 12 + length (flat_map spelled before) in
+    passed_whole (form_bytes file_size) (flat_map spelled before ++ (data_letters ++ more)) Nothing Form 0 (form_told file_size) (omega arith)
+    ∙ others_read before (data_letters ++ more) Form 12 passed refl
+    ∙ read_broken data_letters more Form at (record { name = BadRiff; at = at }) (early_told at) (omega arith)
+
+-- no `data` at all
+pub ended_read : (o : Opening) → IsOpening o → end_fault (opening_bytes o) ≡ Some (record { name = NoData; at = length (opening_bytes o) })
+unfolding end_fault read
+ended_read o is =
+    ap (λ (given : Outcome). fault_at_end given (length (opening_bytes o))) (ap outcome (sym (append-nil (opening_bytes o))) ∙ opening_read o is [])
 
 -- the header that is written before the samples are known
-header_spelling : ℕ → Spelling
-header_spelling channels = record {
+header_opening : ℕ → Opening
+header_opening channels = record {
   file_size = 0xFFFFFFFF;
   before = [];
   channels = channels;
   description = Plain (96000 * channels) (2 * channels) [];
   padding = 0;
   after = [];
-  data_size = 0xFFFFFFFF;
 }
 
 pub header_read : (channels : ℕ) → (channels ≡ 1) ⊎ (channels ≡ 2) → (more : List ℕ) → outcome (header channels ++ more) ≡ Started channels 48000 None 44
-unfolding header header_spelling spelling_of
+unfolding header header_opening opening_bytes
 header_read channels few more =
-    spelling_read (header_spelling channels) (record {
+    spelling_read (header_opening channels) 0xFFFFFFFF more (record {
       before_passed = λ k d h. absurd (omega arith);
       one_or_two = few;
       long = tt;
       short = omega arith;
       after_passed = λ k d h. absurd (omega arith);
-      fits_size = omega arith;
-      whole = inl refl;
-    }) more
+    }) (omega arith) (inl refl)

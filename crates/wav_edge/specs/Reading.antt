@@ -46,6 +46,10 @@ IsHeaderFault BadRiff = Unit {0}
 IsHeaderFault (UnsupportedFormat codec bits channels rate) = Unit {0}
 IsHeaderFault _ = ⊥
 
+-- the form is broken at this place
+abbrev pub broken_at : ℕ → Outcome
+broken_at place = Faulty (record { name = BadRiff; at = place })
+
 -- the bytes of a file so far
 unfoldable pub outcome : List ℕ → Outcome
 outcome bytes = read bytes 0 Nothing 0

@@ -47,31 +47,35 @@ abbrev pub IsLong : Description → Type 0
 IsLong (Plain speed group extra) = Unit {0}
 IsLong (Extensible speed group other extra) = 14 ≤ length extra
 
--- all that may vary before the samples
-pub record Spelling : Type 0 where
+-- all that may stand before `data`, and may vary
+pub record Opening : Type 0 where
   pub file_size : ℕ
   pub before : List Chunk
   pub channels : ℕ
   pub description : Description
   pub padding : ℕ
   pub after : List Chunk
-  pub data_size : ℕ
 
-pub record IsSpelling (s : Spelling) : Type 0 where
-  pub before_passed : All (λ chunk. IsChunk chunk) s.before
-  pub one_or_two : (s.channels ≡ 1) ⊎ (s.channels ≡ 2)
-  pub long : IsLong s.description
-  pub short : length (format_contents s.channels s.description) < 2 ^ 32
-  pub after_passed : All (λ chunk. IsChunk chunk) s.after
-  pub fits_size : s.data_size < 2 ^ 32
-  pub whole : (s.data_size ≡ 0xFFFFFFFF) ⊎ (s.data_size % (2 * s.channels) ≡ 0)
+pub record IsOpening (o : Opening) : Type 0 where
+  pub before_passed : All (λ chunk. IsChunk chunk) o.before
+  pub one_or_two : (o.channels ≡ 1) ⊎ (o.channels ≡ 2)
+  pub long : IsLong o.description
+  pub short : length (format_contents o.channels o.description) < 2 ^ 32
+  pub after_passed : All (λ chunk. IsChunk chunk) o.after
 
--- the bytes up to and with the size of `data`
-unfoldable pub spelling_of : Spelling → List ℕ
-spelling_of s =
-    riff ++ (little_bytes 4 s.file_size ++ (wave ++ (flat_map spelled s.before
-    ++ (chunk_bytes format_letters (format_contents s.channels s.description) s.padding ++ (flat_map spelled s.after
-    ++ (data_letters ++ little_bytes 4 s.data_size))))))
+-- the head of the form
+abbrev pub form_bytes : ℕ → List ℕ
+form_bytes file_size = riff ++ (little_bytes 4 file_size ++ wave)
+
+-- the bytes up to the letters of `data`
+unfoldable pub opening_bytes : Opening → List ℕ
+opening_bytes o =
+    form_bytes o.file_size ++ (flat_map spelled o.before
+    ++ (chunk_bytes format_letters (format_contents o.channels o.description) o.padding ++ flat_map spelled o.after))
+
+-- so many bytes are whole groups of samples, or "up to the end of the file"
+abbrev pub IsDataSize : ℕ → ℕ → Type 0
+IsDataSize channels size = (size ≡ 0xFFFFFFFF) ⊎ (size % (2 * channels) ≡ 0)
 
 -- the size that is declared; the largest number stands for "up to the end of the file"
 abbrev pub declared : ℕ → Option ℕ

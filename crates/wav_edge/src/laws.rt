@@ -1,13 +1,17 @@
 //! Laws of the definitions that the calls cite. Each function does nothing: its clause is the law.
-ghost use Rattle.std.specs.Prelude.{◌≡◌, ◌≤◌, ◌<◌, ◌⊎◌, ◌^◌, ◌%◌, ◌++◌, ℕ, ℤ, List, Option, length, drop, All, FitsSigned};
+ghost use Rattle.std.specs.Prelude.{◌≡◌, ◌≤◌, ◌<◌, ◌⊎◌, ◌^◌, ◌%◌, ◌+◌, ◌*◌, ◌≢◌, ◌++◌, ℕ, ℤ, List, Option, length, drop, All, FitsSigned};
 ghost use Rattle.std.specs.Int.{w16};
+ghost use Rattle.std.specs.List.{flat_map};
+ghost use Rattle.byteorder.specs.Endian.{little_bytes};
+ghost use Rattle.celt_base.specs.declared.status.FaultName.TheVariants.{NoData};
+ghost use Rattle.wav_edge.specs.Fields.{format_letters, data_letters};
 ghost use Rattle.celt_base.specs.declared.status.Fault.{Fault};
 ghost use Rattle.wav_edge.specs.declared.reader.HeaderReader.{HeaderReader};
-ghost use Rattle.wav_edge.specs.Reading.{outcome, samples, within_size, IsHeaderFault};
+ghost use Rattle.wav_edge.specs.Reading.{outcome, samples, within_size, IsHeaderFault, broken_at, end_fault};
 ghost use Rattle.wav_edge.specs.Reading.Outcome.{Faulty, Started};
 ghost use Rattle.wav_edge.specs.Readers.{StandsFor, answer_to};
 ghost use Rattle.wav_edge.specs.Samples.{samples_of, bytes_of};
-ghost use Rattle.wav_edge.specs.Spellings.{Spelling, IsSpelling, spelling_of, declared, header};
+ghost use Rattle.wav_edge.specs.Spellings.{Chunk, IsChunk, spelled, Opening, IsOpening, form_bytes, opening_bytes, IsDataSize, declared, header};
 
 /// A fault that was found stays whatever bytes follow, and so do the samples' format and place.
 pub fn law_stays()
@@ -33,8 +37,24 @@ pub fn law_readers_alike()
 /// A header as it is written gives its channels and its size, whatever follows it, and its samples begin
 /// where it ends.
 pub fn law_spelling()
-    ensures { (s : Spelling) (more : List ℕ) → IsSpelling s →
-        outcome (spelling_of s ++ more) ≡ Started s.channels 48000 (declared s.data_size) (length (spelling_of s)) }
+    ensures { (o : Opening) (size : ℕ) (more : List ℕ) → IsOpening o → size < 2 ^ 32 → IsDataSize o.channels size →
+        outcome (opening_bytes o ++ (data_letters ++ (little_bytes 4 size ++ more)))
+        ≡ Started o.channels 48000 (declared size) (length (opening_bytes o) + 8) }
+{}
+
+/// Where what is written breaks the form: `data` before `fmt `, a second `fmt `, a size of `data` that is no
+/// multiple of a group of samples, and an end without `data`.
+pub fn law_broken()
+    ensures early { (file_size : ℕ) (before : List Chunk) (more : List ℕ) → All (λ chunk. IsChunk chunk) before →
+        outcome (form_bytes file_size ++ (flat_map spelled before ++ (data_letters ++ more)))
+        ≡ broken_at (12 + length (flat_map spelled before)) }
+    ensures second { (o : Opening) (more : List ℕ) → IsOpening o →
+        outcome (opening_bytes o ++ (format_letters ++ more)) ≡ broken_at (length (opening_bytes o)) }
+    ensures half { (o : Opening) (size : ℕ) (more : List ℕ) → IsOpening o → size < 2 ^ 32 →
+        size ≢ 0xFFFFFFFF → size % (2 * o.channels) ≢ 0 →
+        outcome (opening_bytes o ++ (data_letters ++ (little_bytes 4 size ++ more))) ≡ broken_at (length (opening_bytes o) + 4) }
+    ensures ended { (o : Opening) → IsOpening o →
+        end_fault (opening_bytes o) ≡ Some (record { name = NoData; at = length (opening_bytes o) }) }
 {}
 
 /// The header that is written before the samples are known gives its channels and no size.

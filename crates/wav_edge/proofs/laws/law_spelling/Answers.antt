@@ -2,4 +2,4 @@ use Rattle.wav_edge.proofs.SpellingLemmas.{spelling_read}
 use Rattle.wav_edge.proofs.laws.law_spelling.Goals as goal
 
 pub returns : goal.returns
-returns c = λ s more is. spelling_read s is more
+returns c = spelling_read
