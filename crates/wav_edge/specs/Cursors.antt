@@ -60,5 +60,5 @@ stopped_by (Stopped fault) = Some fault
 -- whether a reading that is under way ends between two parts
 abbrev pub EndsBetween : State → Bool → Type 0
 EndsBetween (Reading cursor) between = resumed cursor [] ≡ Unfinished between
-EndsBetween (Started channels rate size place) between = Unit {0}
-EndsBetween (Stopped fault) between = Unit {0}
+EndsBetween (Started channels rate size place) between = between ≡ false
+EndsBetween (Stopped fault) between = between ≡ false
