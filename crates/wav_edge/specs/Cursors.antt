@@ -26,7 +26,8 @@ place_of cursor = cursor.at + cursor.len
 -- read
 abbrev pub IsMoved : ℕ → ℕ → State → Type 0
 IsMoved from n (Reading cursor) = place_of cursor ≡ from + n
-IsMoved from n (Started channels rate size place) = (from < place) × (place ≤ from + n) × (is_readable channels rate ≡ true)
+IsMoved from n (Started channels rate size place) =
+    (from < place) × (place ≤ from + n) × (is_readable channels rate ≡ true)
 IsMoved from n (Stopped fault) = Unit {0}
 
 -- the state after n bytes more: only a reading that is under way moves

@@ -61,38 +61,57 @@ data_part Nothing at bytes = bad_riff at
 data_part Form at bytes = bad_riff at
 data_part (Format channels rate) at bytes = once 8 bytes (sized channels rate at (size_of bytes))
 
+-- the fields of `fmt `, by their offsets in its contents, which begin behind eight bytes: codec at 0,
+-- channels at 2, rate at 4, bits at 14 and, in an extensible format, the sub-format at 24; byte rate and
+-- block size may be anything
+abbrev pub codec_of : List ℕ → ℕ
+codec_of bytes = number_at 2 8 bytes
+
+abbrev pub channels_of : List ℕ → ℕ
+channels_of bytes = number_at 2 10 bytes
+
+abbrev pub rate_of : List ℕ → ℕ
+rate_of bytes = number_at 4 12 bytes
+
+abbrev pub bits_of : List ℕ → ℕ
+bits_of bytes = number_at 2 22 bytes
+
+abbrev pub sub_format_of : List ℕ → ℕ
+sub_format_of bytes = number_at 2 32 bytes
+
 -- PCM of 16 bits, in a number of channels and at a rate that can be read
 unfoldable pub is_supported : ℕ → List ℕ → Bool
 is_supported codec bytes =
-    codec == 1 && number_at 2 22 bytes == 16 && is_readable (number_at 2 10 bytes) (number_at 4 12 bytes)
+    codec == 1 && bits_of bytes == 16 && is_readable (channels_of bytes) (rate_of bytes)
 
 -- the format at this place is none that can be read
 abbrev pub unsupported : ℕ → List ℕ → Part
 unsupported at bytes = Broken (record {
-  name = UnsupportedFormat (number_at 2 8 bytes) (number_at 2 22 bytes) (number_at 2 10 bytes) (number_at 4 12 bytes);
+  name = UnsupportedFormat (codec_of bytes) (bits_of bytes) (channels_of bytes) (rate_of bytes);
   at = at;
 })
 
--- the fields of `fmt `, codec (or, in an extensible format, the sub-format) apart: channels at offset 2 of
--- the contents, rate at 4, bits at 14; block size and byte rate may be anything
+-- a format by its codec or, where it is extensible, its sub-format
 unfoldable pub described : ℕ → ℕ → List ℕ → Part
 described codec at bytes =
-    if is_supported codec bytes then Passed (Format (number_at 2 10 bytes) (number_at 4 12 bytes)) (chunk_length bytes)
+    if is_supported codec bytes then Passed (Format (channels_of bytes) (rate_of bytes)) (chunk_length bytes)
     else unsupported at bytes
 
--- the contents of `fmt `, which begin with the codec; FFFE is an extensible format, with a sub-format at
--- offset 24
+-- the contents of `fmt `: codec FFFE is an extensible format
 unfoldable pub coded : ℕ → List ℕ → Part
 coded at bytes =
-    if number_at 2 8 bytes == 0xFFFE then
-    (if nat_lt (size_of bytes) 40 then bad_riff (at + 4) else once 34 bytes (described (number_at 2 32 bytes) at bytes))
-    else once 24 bytes (described (number_at 2 8 bytes) at bytes)
+    if codec_of bytes == 0xFFFE then
+    (if nat_lt (size_of bytes) 40 then bad_riff (at + 4)
+    else once 34 bytes (described (sub_format_of bytes) at bytes))
+    else once 24 bytes (described (codec_of bytes) at bytes)
 
 -- the chunk `fmt ` at this place: it must be the first one
 unfoldable pub format_part : Seen → ℕ → List ℕ → Part
 format_part Nothing at bytes = bad_riff at
 format_part Form at bytes =
-    once 8 bytes (if nat_lt (size_of bytes) 16 then bad_riff (at + 4) else once 10 bytes (coded at bytes))
+    once 8 bytes (
+    if nat_lt (size_of bytes) 16 then bad_riff (at + 4)
+    else once 10 bytes (coded at bytes))
 format_part (Format channels rate) at bytes = bad_riff at
 
 -- the chunk at this place; one that is neither `fmt ` nor `data` is passed over

@@ -38,7 +38,8 @@ followed at (Broken fault) next = Faulty fault
 unfoldable pub read : List ℕ → ℕ → Seen → ℕ → Outcome
 read [] left seen at = Unfinished (is_between left seen)
 read (byte ∷ bytes) (suc left) seen at = read bytes left seen (at + 1)
-read (byte ∷ bytes) zero seen at = followed at (part_at seen at (byte ∷ bytes)) (λ left' seen'. read bytes left' seen' (at + 1))
+read (byte ∷ bytes) zero seen at =
+    followed at (part_at seen at (byte ∷ bytes)) (λ left' seen'. read bytes left' seen' (at + 1))
 
 -- the faults that come before the samples
 abbrev pub IsHeaderFault : FaultName → Type 0

@@ -89,7 +89,8 @@ impl Cursor {
         requires within { count ≤ self.left }
         requires place { place_of self + count < 2 ^ 48 }
         ensures moved { place_of result ≡ place_of self + count }
-        ensures resumes { (bytes more : List ℕ) → length bytes ≡ count → resumed self (bytes ++ more) ≡ resumed result more }
+        ensures resumes { (bytes more : List ℕ) → length bytes ≡ count →
+            resumed self (bytes ++ more) ≡ resumed result more }
     {
         Cursor::between(self.seen, self.at + count, self.left - count)
     }
@@ -136,7 +137,8 @@ impl Cursor {
     pub fn advance(self, piece: &[u8]) -> State
         requires place { place_of self + length piece.now ≤ 2 ^ 40 }
         ensures moved { IsMoved (place_of self) (length piece.now) result }
-        ensures resumes { (more : List ℕ) → resumed self (piece.now ++ more) ≡ resumed_state result more }
+        ensures resumes { (more : List ℕ) →
+            resumed self (piece.now ++ more) ≡ resumed_state result more }
     {
         let mut cursor = self;
         let mut next = 0;
@@ -166,7 +168,8 @@ impl State {
     pub fn advance(self, piece: &[u8]) -> State
         requires place { Fits40 self (length piece.now) }
         ensures step { IsStep self (length piece.now) result }
-        ensures resumes { (more : List ℕ) → resumed_state self (piece.now ++ more) ≡ resumed_state result more }
+        ensures resumes { (more : List ℕ) →
+            resumed_state self (piece.now ++ more) ≡ resumed_state result more }
     {
         match self {
             State::Reading(cursor) => cursor.advance(piece),

@@ -61,11 +61,14 @@ impl HeaderReader {
     pub fn feed(&mut self, piece: &[u8]) -> Header
         requires unread { has_started self.old ≡ false }
         requires limit { bytes_fed self.old + length piece.now ≤ 2 ^ 40 }
-        ensures longer { (bytes : List ℕ) → StandsFor self.old bytes → StandsFor self.new (bytes ++ piece.now) }
-        ensures answer { (bytes : List ℕ) → StandsFor self.old bytes → result ≡ answered (length bytes) (outcome (bytes ++ piece.now)) }
+        ensures longer { (bytes : List ℕ) →
+            StandsFor self.old bytes → StandsFor self.new (bytes ++ piece.now) }
+        ensures answer { (bytes : List ℕ) → StandsFor self.old bytes →
+            result ≡ answered (length bytes) (outcome (bytes ++ piece.now)) }
         ensures said { result ≡ answer_to self.old piece.now }
         ensures playable { IsPlayable result }
-        ensures gives { (bytes : List ℕ) → StandsFor self.old bytes → Gives (length bytes) result (outcome (bytes ++ piece.now)) }
+        ensures gives { (bytes : List ℕ) → StandsFor self.old bytes →
+            Gives (length bytes) result (outcome (bytes ++ piece.now)) }
         ensures used { EndsWithin (length piece.now) result }
         ensures again { IfSome (fault_of self.old) (λ fault. result ≡ Header.Fault fault) }
         ensures fed { bytes_fed self.new ≡ bytes_fed self.old + length piece.now }
