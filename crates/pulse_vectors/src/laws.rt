@@ -1,0 +1,26 @@
+//! Laws of the definitions alone, for all whole numbers. No body does anything.
+
+ghost use Rattle.std.specs.Prelude.{◌≡◌, ℕ, ℤ, Some, ◌+◌, ◌<◌, ◌↔◌, List, length, slice_get};
+ghost use Rattle.std.specs.List.{Contains};
+ghost use Rattle.pulse_vectors.specs.Vectors.{pulse_sum, vectors, count_of};
+
+/// The list holds exactly the vectors of n numbers whose sizes add up to k.
+pub fn law_vectors_are_all()
+    ensures { (n k : ℕ) (y : List ℤ) → Contains (vectors n k) y ↔ ((length y ≡ n) × (pulse_sum y ≡ k)) }
+{
+}
+
+/// No vector stands twice in the list.
+pub fn law_no_vector_twice()
+    ensures { (n k i j : ℕ) (y : List ℤ) → slice_get (vectors n k) i ≡ Some y → slice_get (vectors n k) j ≡ Some y → i ≡ j }
+{
+}
+
+/// V(N, K) = V(N - 1, K) + V(N, K - 1) + V(N - 1, K - 1), with V(N, 0) = 1 and V(0, K) = 0 for K
+/// above 0.
+pub fn law_counts()
+    ensures no_pulses { (n : ℕ) → count_of n 0 ≡ 1 }
+    ensures no_numbers { (k : ℕ) → count_of 0 (k + 1) ≡ 0 }
+    ensures three { (n k : ℕ) → count_of (n + 1) (k + 1) ≡ count_of n (k + 1) + count_of (n + 1) k + count_of n k }
+{
+}

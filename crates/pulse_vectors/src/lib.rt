@@ -1,0 +1,10 @@
+//! Vectors.
+#![tactic(auto)]
+
+mod laws;
+mod ranks;
+mod row;
+
+pub use laws::{law_counts, law_no_vector_twice, law_vectors_are_all};
+pub use ranks::{count, rank};
+pub use row::Row;

@@ -1,0 +1,95 @@
+//! The number of vectors, the place of a vector in their order, and back (RFC 6716, section 4.3.4.2).
+
+ghost use Rattle.std.specs.Prelude.{◌≡◌, ◌↔◌, ℕ, ◌+◌, ◌-◌, ◌^◌, ◌<◌, ◌≤◌, length, take, unsigned_abs, slice_get};
+ghost use Rattle.pulse_vectors.specs.Rows.{count_below, stand_before};
+ghost use Rattle.pulse_vectors.specs.Vectors.{vectors, count_of, pulse_sum};
+
+use crate::row::Row;
+
+/// V(n, k), where it is below 2^32. `n` is at most 176 and `k` at most 4096.
+pub fn count(n: u32, k: u32) -> Option<u32>
+    requires numbers { n ≤ 176 }
+    requires pulses { k ≤ 4096 }
+    ensures fits { count_of n k < 2 ^ 32 → result ≡ Some (count_of n k) }
+    ensures beyond { 2 ^ 32 ≤ count_of n k → result ≡ None }
+{
+    let mut row = Row::new(k);
+    for _ in 0..n {
+        if row.next_top() >= 1 << 32 {
+            return None;
+        }
+        row.up();
+    }
+    Some(row.at(k))
+}
+
+/// How many pulses the vector holds.
+#[tactic(auto, unfolding(crate::specs::Vectors::pulse_sum))]
+fn pulses_in(y: &[i32]) -> u32
+    requires { pulse_sum y.now ≤ 4096 }
+    ensures { result ≡ pulse_sum y.now }
+{
+    y.iter().map(|x| x.unsigned_abs()).sum()
+}
+
+/// How many vectors stand before those that begin with `x`, where the numbers behind it, as many as
+/// the row's, hold `behind` pulses. It takes the row up by one number.
+fn step_over(row: &mut Row, x: i32, behind: u32) -> u32
+    requires numbers { row.old.numbers < 176 }
+    requires pulses { unsigned_abs x + behind ≤ row.old.pulses }
+    requires most { row.old.pulses ≤ 4096 }
+    requires fits { count_of (row.old.numbers + 1) row.old.pulses < 2 ^ 32 }
+    ensures before { result ≡ stand_before row.old.numbers behind x }
+    ensures numbers { row.new.numbers ≡ row.old.numbers + 1 }
+    ensures pulses { row.new.pulses ≡ row.old.pulses }
+{
+    let here = behind + x.unsigned_abs();
+    let fewer = row.at(behind);
+    let all = row.at(here);
+    row.up();
+    let before = (row.at(behind) - fewer) / 2;
+    if x < 0 {
+        all + (row.at(here) - all) / 2 + before
+    } else {
+        before
+    }
+}
+
+/// The place of the vector in the order of all vectors of its length and its number of pulses.
+/// `y` has 1 to 176 numbers and 1 to 4096 pulses, and there are fewer than 2^32 such vectors.
+pub fn rank(y: &[i32]) -> u32
+    requires numbers { (1 ≤ length y.now) × (length y.now ≤ 176) }
+    requires pulses { (1 ≤ pulse_sum y.now) × (pulse_sum y.now ≤ 4096) }
+    requires fits { count_of (length y.now) (pulse_sum y.now) < 2 ^ 32 }
+    ensures below { result < count_of (length y.now) (pulse_sum y.now) }
+    ensures stands { slice_get (vectors (length y.now) (pulse_sum y.now)) result ≡ Some y.now }
+    ensures only { (i : ℕ) → slice_get (vectors (length y.now) (pulse_sum y.now)) i ≡ Some y.now → i ≡ result }
+{
+    let mut row = Row::new(pulses_in(y));
+    let mut behind = 0;
+    let mut place = 0;
+    for i in (0..y.len()).rev() {
+        place += step_over(&mut row, y[i], behind);
+        behind += y[i].unsigned_abs();
+    }
+    place
+}
+
+/// The least number of pulses behind the first number such that `index` is below the count of the
+/// vectors with no more behind it, and the place among those with just as many.
+/// The row is that of the numbers behind, and `index` is below the sum of its counts up to `most`.
+fn pulses_behind(row: &Row, index: u32, most: u32) -> (u32, u32)
+    requires inside { most ≤ row.now.pulses }
+    requires below { index < count_below row.now.numbers (most + 1) }
+    ensures pulses { result.0 ≤ most }
+    ensures place { index ≡ count_below row.now.numbers result.0 + result.1 }
+    ensures within { result.1 < count_of row.now.numbers result.0 }
+{
+    let mut behind = 0;
+    let mut place = index;
+    while place >= row.at(behind) {
+        place -= row.at(behind);
+        behind += 1;
+    }
+    (behind, place)
+}
