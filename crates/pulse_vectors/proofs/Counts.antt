@@ -57,3 +57,17 @@ next-top n m k j fewer last s e1 e2 e3 =
     let sum = rw (e2, e1) at s.sum in
     let top = rw e1 at e3 in
     omega (arith, count-by-sum n m)
+
+pub below-next : (n t index r v : ℕ) → index ≡ count_below n t + r → v ≡ count_of n t → v ≤ r → index ≡ count_below n (t + 1) + (r - v)
+below-next n t index r v e1 e2 h = rw add-one (omega (arith, below-suc n t))
+
+pub below-end : (n t index r v most : ℕ) → index ≡ count_below n t + r → v ≡ count_of n t → v ≤ r → index < count_below n (most + 1) → t + 1 ≤ most
+below-end n t index r v most e1 e2 h b = elim (cases_lt t most) [
+    inl less ↦ omega arith
+  | inr past ↦
+        let next = below-next n t index r v e1 e2 h in
+        absurd (omega (arith, below_rises n (most + 1) (t + 1) (omega arith))) ]
+
+pub below-positive : (n t : ℕ) → 0 < count_below n t → 1 ≤ t
+below-positive n zero h = absurd (omega (arith, below-zero n))
+below-positive n (suc t) h = omega arith

@@ -36,7 +36,7 @@ pub record HasSizes (f : ℕ → ℤ) : Type 0 where
 pos_sizes : HasSizes pos
 pos_sizes = record { size = λ m. refl }
 
-minus_size : (m : ℕ) → unsigned_abs (minus m) ≡ m
+pub minus_size : (m : ℕ) → unsigned_abs (minus m) ≡ m
 minus_size zero = refl
 minus_size (suc m) = refl
 

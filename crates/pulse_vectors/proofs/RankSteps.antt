@@ -1,11 +1,12 @@
 -- How far the loops of rank and unrank have come.
-use Rattle.std.proofs.Common.{◌≡◌, ◌^◌, ℕ, zero, suc, ◌+◌, ◌-◌, ◌<◌, ◌≤◌, List, [], ◌∷◌, length, drop, take, get_or, refl, sym, ◌∙◌, ap, arith, add-one, length-drop, subst}
+use Rattle.std.proofs.Common.{◌≡◌, ◌^◌, ℕ, zero, suc, ◌+◌, ◌-◌, ◌<◌, ◌≤◌, List, [], ◌∷◌, length, drop, take, set, ◌++◌, get_or, refl, sym, ◌∙◌, ap, arith, add-one, length-drop, subst, append-nil}
 use Rattle.std.specs.Prelude.{ℤ, pos, unsigned_abs, slice_get, Some}
-use Rattle.std.proofs.Math.Seq.{drop-cons, drop-length}
+use Rattle.std.proofs.Math.Seq.{drop-cons, drop-length, take-suc-set, append_snoc, take-length}
+use Rattle.std.proofs.lemmas.List.{take_all}
 use Rattle.std.proofs.lemmas.List.Sums.{sum_by-take-drop}
-use Rattle.pulse_vectors.specs.Rows.{stand_before, RowShape}
-use Rattle.pulse_vectors.specs.Vectors.{count_of, pulse_sum, vectors}
-use Rattle.pulse_vectors.proofs.Places.{place, place-get, place-only, pulse_sum-cons, within_count}
+use Rattle.pulse_vectors.specs.Rows.{count_below, stand_before, RowShape, Leads}
+use Rattle.pulse_vectors.specs.Vectors.{count_of, pulse_sum, vectors, minus}
+use Rattle.pulse_vectors.proofs.Places.{place, place-get, place-only, pulse_sum-cons, within_count, front_place, back_place, minus_size}
 use Rattle.pulse_vectors.proofs.RowSteps.{count_rises}
 use Rattle.pulse_vectors.proofs.Counts.{count_grows}
 
@@ -96,3 +97,65 @@ ranked-only y i behind at j e r0 g =
     let r = let P : ℕ → Type 0 = λ n. Ranked y n behind at in subst P e r0 in
     let q : at ≡ place y = r.at_is in
     (place-only (length y) (pulse_sum y) j y g).at ∙ sym q
+
+-- What a loop from the first number to the last knows, the first i of them written: where the
+-- vector goes on.
+pub record Unranked (n k index : ℕ) (y : List ℤ) (i left at : ℕ) : Type 0 where
+  pub few : left ≤ k
+  pub inside : at < count_of (n - i) left
+  pub joined : (rest : List ℤ) → slice_get (vectors (n - i) left) at ≡ Some rest
+      → slice_get (vectors n k) index ≡ Some (take i y ++ rest)
+
+-- The same with the row of the numbers that are left.
+pub record UnrankedBy (n k index : ℕ) (y : List ℤ) (i left at numbers pulses : ℕ) : Type 0 where
+  pub unranked : Unranked n k index y i left at
+  pub numbers_is : numbers + i ≡ n
+  pub pulses_is : pulses ≡ k
+
+pub unranked-start : (n k index : ℕ) (y : List ℤ) → index < count_of n k → Unranked n k index y 0 k index
+unranked-start n k index y h =
+    let e : n - 0 ≡ n = omega arith in
+    record { few = omega arith; inside = rw e h; joined = rw e (λ rest g. g) }
+
+written : (y : List ℤ) (i : ℕ) (x : ℤ) (rest : List ℤ) → i < length y → take (i + 1) (set y i x) ++ rest ≡ take i y ++ (x ∷ rest)
+written y i x rest h = rw (add-one, take-suc-set y i x h) (append_snoc (take i y) x rest)
+
+pub unranked-next : (n k index : ℕ) (y : List ℤ) (i left at m : ℕ) (x : ℤ) (t r : ℕ) → length y ≡ n → n - i ≡ suc m
+    → Unranked n k index y i left at → Leads m left at x t r → Unranked n k index (set y i x) (i + 1) t r
+unranked-next n k index y i left at m x t r e1 e2 u l =
+    let e3 : n - (i + 1) ≡ m = omega arith in
+    record {
+      few = omega (arith, u.few, l.pulses);
+      inside = rw e3 l.within;
+      joined = rw e3 (λ rest g.
+          let longer = rw e2 at u.joined in
+          longer (x ∷ rest) (l.joined rest g) ∙ ap Some (sym (written y i x rest (omega arith)))) }
+
+-- Without numbers one vector is left, the empty one.
+no-numbers : (k at : ℕ) → at < count_of 0 k → slice_get (vectors 0 k) at ≡ Some []
+unfolding vectors count_of
+no-numbers zero zero h = refl
+no-numbers zero (suc at) h = absurd (omega arith)
+no-numbers (suc k) at h = absurd (omega arith)
+
+pub unranked-end : (n k index : ℕ) (y : List ℤ) (i left at : ℕ) → length y ≡ n → n ≤ i → Unranked n k index y i left at
+    → slice_get (vectors n k) index ≡ Some y
+unranked-end n k index y i left at e h u =
+    let none : n - i ≡ 0 = omega arith in
+    let inside = rw none at u.inside in
+    let joined = rw none at u.joined in
+    let last = no-numbers left at inside in
+    joined [] last ∙ ap Some (append-nil (take i y) ∙ take_all i y (omega arith))
+
+pub front-leads : (n k index t r : ℕ) → t ≤ k → index ≡ count_below n t + r → r < count_of n t → Leads n k index (pos (k - t)) t r
+front-leads n k index t r h e b = record {
+    pulses = omega arith;
+    within = b;
+    joined = λ rest g. rw e (front_place n k (k - t) t r rest (omega arith) g) }
+
+pub back-leads : (n k index upper t r : ℕ) → t < k → upper ≡ count_below n (suc k) → index ≡ upper + (count_below n t + r) → r < count_of n t
+    → Leads n k index (minus (k - t)) t r
+back-leads n k index upper t r h u e b = record {
+    pulses = omega (arith, minus_size (k - t));
+    within = b;
+    joined = λ rest g. rw (e, u) (back_place n k (k - t) t r rest (omega arith) (omega arith) g) }

@@ -1,7 +1,7 @@
 //! The number of vectors, the place of a vector in their order, and back (RFC 6716, section 4.3.4.2).
 
 ghost use Rattle.std.specs.Prelude.{◌≡◌, ◌↔◌, ℕ, ◌+◌, ◌-◌, ◌^◌, ◌<◌, ◌≤◌, length, take, unsigned_abs, slice_get};
-ghost use Rattle.pulse_vectors.specs.Rows.{count_below, stand_before};
+ghost use Rattle.pulse_vectors.specs.Rows.{Leads, count_below, stand_before};
 ghost use Rattle.pulse_vectors.specs.Vectors.{vectors, count_of, pulse_sum};
 
 use crate::row::Row;
@@ -75,9 +75,20 @@ pub fn rank(y: &[i32]) -> u32
     place
 }
 
-/// The least number of pulses behind the first number such that `index` is below the count of the
-/// vectors with no more behind it, and the place among those with just as many.
-/// The row is that of the numbers behind, and `index` is below the sum of its counts up to `most`.
+/// One number of a vector that is read by its place, and where the numbers behind it go on.
+#[derive(Clone, Copy)]
+pub(crate) struct Number {
+    /// The number itself.
+    pub(crate) value: i32,
+    /// How many pulses the numbers behind it hold.
+    pub(crate) behind: u32,
+    /// The place of the numbers behind it among all vectors with so many pulses.
+    pub(crate) place: u32,
+}
+
+/// How many pulses stand behind the first number where `index` numbers the vectors by them, from 0
+/// to `most`, and the place among those with as many. The row is that of the numbers behind, and
+/// `index` is below the sum of its counts from 0 to `most`.
 fn pulses_behind(row: &Row, index: u32, most: u32) -> (u32, u32)
     requires inside { most ≤ row.now.pulses }
     requires below { index < count_below row.now.numbers (most + 1) }
@@ -92,4 +103,71 @@ fn pulses_behind(row: &Row, index: u32, most: u32) -> (u32, u32)
         behind += 1;
     }
     (behind, place)
+}
+
+/// The first number of the vector at place `index`, where the row is that of the vector's numbers
+/// and `pulses` those that it holds. It takes the row down by one number.
+fn first_number(row: &mut Row, index: u32, pulses: u32) -> Number
+    requires numbers { 1 ≤ row.old.numbers }
+    requires inside { (pulses ≤ row.old.pulses) × (pulses ≤ 4096) }
+    requires below { index < count_of row.old.numbers pulses }
+    ensures leads { Leads (row.old.numbers - 1) pulses index result.value result.behind result.place }
+    ensures numbers { row.new.numbers ≡ row.old.numbers - 1 }
+    ensures pulses { row.new.pulses ≡ row.old.pulses }
+{
+    let whole = row.at(pulses);
+    row.down();
+    let zero = row.at(pulses);
+    let upper = zero + (whole - zero) / 2;
+    if index < upper {
+        let (behind, place) = pulses_behind(row, index, pulses);
+        Number {
+            value: (pulses - behind) as i32,
+            behind,
+            place,
+        }
+    } else {
+        let (behind, place) = pulses_behind(row, index - upper, pulses - 1);
+        Number {
+            value: -((pulses - behind) as i32),
+            behind,
+            place,
+        }
+    }
+}
+
+/// The row of `numbers` numbers, with room for `pulses` pulses.
+fn row_of(numbers: u32, pulses: u32) -> Row
+    requires numbers { numbers ≤ 176 }
+    requires pulses { pulses ≤ 4096 }
+    requires fits { count_of numbers pulses < 2 ^ 32 }
+    ensures numbers { result.numbers ≡ numbers }
+    ensures pulses { result.pulses ≡ pulses }
+{
+    let mut row = Row::new(pulses);
+    for _ in 0..numbers {
+        row.up();
+    }
+    row
+}
+
+/// Writes the vector that stands at place `index` in the order of all vectors with the length of
+/// `y` and `pulses` pulses. `y` has 1 to 176 numbers, `pulses` is 1 to 4096, there are fewer than
+/// 2^32 such vectors, and `index` is below their count.
+pub fn unrank(index: u32, pulses: u32, y: &mut [i32])
+    requires numbers { (1 ≤ length y.old) × (length y.old ≤ 176) }
+    requires pulses { (1 ≤ pulses) × (pulses ≤ 4096) }
+    requires fits { count_of (length y.old) pulses < 2 ^ 32 }
+    requires below { index < count_of (length y.old) pulses }
+    ensures { slice_get (vectors (length y.old) pulses) index ≡ Some y.new }
+{
+    let mut row = row_of(y.len() as u32, pulses);
+    let mut left = pulses;
+    let mut place = index;
+    for x in y.iter_mut() {
+        let number = first_number(&mut row, place, left);
+        *x = number.value;
+        left = number.behind;
+        place = number.place;
+    }
 }
