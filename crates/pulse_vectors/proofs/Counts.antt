@@ -71,3 +71,6 @@ below-end n t index r v most e1 e2 h b = elim (cases_lt t most) [
 pub below-positive : (n t : ℕ) → 0 < count_below n t → 1 ≤ t
 below-positive n zero h = absurd (omega (arith, below-zero n))
 below-positive n (suc t) h = omega arith
+
+pub no-fewer : (n t : ℕ) → t ≡ 0 → 0 ≡ count_below n t
+no-fewer n t e = rw e (sym (below-zero n))

@@ -76,7 +76,7 @@ ranked_by-next y left i behind at size ahead numbers pulses more same e r e1 e2 
 pub place-below : (y : List ℤ) → place y < count_of (length y) (pulse_sum y)
 place-below y = within_count (length y) (pulse_sum y) (place y) y (place-get y)
 
-count-rises : (n j k : ℕ) → 0 < n → j ≤ k → count_of n j ≤ count_of n k
+pub count-rises : (n j k : ℕ) → 0 < n → j ≤ k → count_of n j ≤ count_of n k
 count-rises zero j k h b = absurd (omega arith)
 count-rises (suc n) j k h b = count_rises n j k b
 

@@ -1,7 +1,8 @@
 //! Laws of the definitions alone, for all whole numbers. No body does anything.
 
-ghost use Rattle.std.specs.Prelude.{◌≡◌, ℕ, ℤ, Some, ◌+◌, ◌<◌, ◌↔◌, List, length, slice_get};
+ghost use Rattle.std.specs.Prelude.{◌≡◌, ℕ, ℤ, Some, ◌+◌, ◌<◌, ◌≤◌, ◌↔◌, List, length, slice_get};
 ghost use Rattle.std.specs.List.{Contains};
+ghost use Rattle.pulse_vectors.specs.Costs.{last_of, cost_at};
 ghost use Rattle.pulse_vectors.specs.Vectors.{pulse_sum, vectors, count_of};
 
 /// The list holds exactly the vectors of n numbers whose sizes add up to k.
@@ -22,5 +23,11 @@ pub fn law_counts()
     ensures no_pulses { (n : ℕ) → count_of n 0 ≡ 1 }
     ensures no_numbers { (k : ℕ) → count_of 0 (k + 1) ≡ 0 }
     ensures three { (n k : ℕ) → count_of (n + 1) (k + 1) ≡ count_of n (k + 1) + count_of (n + 1) k + count_of n k }
+{
+}
+
+/// Costs never fall as the index rises.
+pub fn law_costs_never_fall()
+    ensures { (n q r : ℕ) → 1 ≤ n → q ≤ r → r ≤ last_of n → cost_at n q ≤ cost_at n r }
 {
 }

@@ -2,9 +2,13 @@
 #![tactic(auto)]
 
 mod laws;
+mod pulses;
 mod ranks;
 mod row;
+mod table;
 
-pub use laws::{law_counts, law_no_vector_twice, law_vectors_are_all};
+pub use laws::{law_costs_never_fall, law_counts, law_no_vector_twice, law_vectors_are_all};
+pub use pulses::pulses_of;
 pub use ranks::{count, rank, unrank};
 pub use row::Row;
+pub use table::PulseTable;
