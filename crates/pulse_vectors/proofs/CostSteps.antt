@@ -1,14 +1,17 @@
 -- The pulses of an index, the last index, and the costs.
 use Rattle.std.proofs.Common.{◌≡◌, ◌^◌, ℕ, zero, suc, ◌+◌, ◌-◌, ◌*◌, ◌<◌, ◌≤◌, ◌⊎◌, inl, inr, refl, sym, ◌∙◌, ap, subst, arith}
-use Rattle.std.specs.Prelude.{Bool, true, false, ◌&&◌, nat_lt, nat_le}
+use Rattle.std.specs.Prelude.{Bool, true, false, ◌&&◌, nat_lt, nat_le, min, ℤ, pos, int_lt, int_le, ◌*ℤ◌, ◌-ℤ◌, ◌≤ℤ◌, ◌<ℤ◌}
 use Rattle.std.proofs.lemmas.Bool.{cases_lt, leb-true, ltb-true}
 use Rattle.std.proofs.lemmas.Bool.Decides.{nat_tests}
-use Rattle.pulse_vectors.specs.Costs.{greatest, pulses_at, last_of, log_eighths, cost_at}
+use Rattle.std.proofs.lemmas.Int.{ints}
+use Rattle.pulse_vectors.specs.Costs.{greatest, pulses_at, last_of, log_eighths, cost_at, index_below, index_near}
+use Rattle.pulse_vectors.specs.Tables.{HasPlace, start_of}
 use Rattle.pulse_vectors.specs.Vectors.{count_of}
 use Rattle.pulse_vectors.proofs.Counts.{count-no-pulses}
 use Rattle.pulse_vectors.proofs.RankSteps.{count-rises}
-use Rattle.pulse_vectors.proofs.TableFacts.{both}
-use Rattle.pulse_vectors.proofs.Logs.{greatest-passes, greatest-within, eighths_rise}
+use Rattle.pulse_vectors.proofs.TableFacts.{both, table-facts}
+use Rattle.pulse_vectors.proofs.TableSteps.{has-place}
+use Rattle.pulse_vectors.proofs.Logs.{greatest-is, greatest-passes, greatest-within, eighths_rise}
 
 -- A test that holds of each number below a bound.
 unfoldable pub holds_below : (ℕ → Bool) → ℕ → Bool
@@ -77,3 +80,123 @@ costs_rise n (suc q) (suc r) h l b =
     eighths_rise (count_of n (pulses_at (suc q))) (count_of n (pulses_at (suc r))) (count-some n (pulses_at (suc q)) h)
         (count-rises n (pulses_at (suc q)) (pulses_at (suc r)) h (pulses_rise (suc q) (suc r) l (omega (arith, last-most n))))
         (index-fits n (suc r) h b)
+
+pub index-place : (n q k : ℕ) → 1 ≤ n → n ≤ 176 → q ≤ last_of n → k ≡ pulses_at q → HasPlace (n - 1) k
+index-place n q k h l b e =
+    let s : suc (n - 1) ≡ n = omega arith in
+    rw e (has-place (n - 1) (pulses_at q) (omega arith) (pulses-most q (omega (arith, last-most n))) (rw s (index-fits n q h b)))
+
+pub cost-none : (n q : ℕ) → q ≡ 0 → 0 ≡ cost_at n q
+unfolding cost_at
+cost-none n q e = rw e refl
+
+pub cost-some : (n q k v r : ℕ) → 1 ≤ q → k ≡ pulses_at q → v ≡ count_of n k → r ≡ log_eighths v → r ≡ cost_at n q
+unfolding cost_at
+cost-some n zero k v r h e1 e2 e3 = absurd (omega arith)
+cost-some n (suc q) k v r h e1 e2 e3 = e3 ∙ ap log_eighths (e2 ∙ ap (count_of n) e1)
+
+-- A search from above for the last index: none above stands for so few pulses.
+pub record LastSought (most index : ℕ) : Type 0 where
+  pub within : index ≤ 40
+  pub above : (q : ℕ) → index < q → q ≤ 40 → most < pulses_at q
+
+pub last-start : (most : ℕ) → LastSought most (min most 40)
+last-start most = record { within = omega arith; above = λ q h l. omega (arith, pulses-least q l) }
+
+pub last-next : (most index k : ℕ) → LastSought most index → k ≡ pulses_at index → most < k → LastSought most (index - 1)
+last-next most index k s e h = record {
+    within = omega (arith, s.within);
+    above = λ q a b. elim (cases_lt index q) [
+        inl over ↦ s.above q over b
+      | inr here ↦ let same : q ≡ index = omega arith in rw same (omega arith) ] }
+
+pub last-positive : (most index k : ℕ) → k ≡ pulses_at index → most < k → 1 ≤ index
+last-positive most zero k e h = let e' = rw pulses-zero at e in absurd (omega arith)
+last-positive most (suc index) k e h = omega arith
+
+-- The number of pulses up to which there are fewer than 2^32 vectors, or 128.
+pub record IsMost (n most : ℕ) : Type 0 where
+  pub below : count_of n most < 2 ^ 32
+  pub enough : (k : ℕ) → k ≤ 128 → most < k → 2 ^ 32 ≤ count_of n k
+
+pub last-end : (n most index k : ℕ) → 1 ≤ n → IsMost n most → LastSought most index → k ≡ pulses_at index → k ≤ most → index ≡ last_of n
+unfolding last_of
+last-end n most index k p m s e h =
+    sym (greatest-is (λ q. nat_lt (count_of n (pulses_at q)) (2 ^ 32)) 40 index s.within
+        (λ z.
+            let fits : count_of n (pulses_at index) < 2 ^ 32 = omega (arith, m.below, count-rises n (pulses_at index) most p (omega arith)) in
+            grind (arith, nat_tests))
+        (λ q a b.
+            let past : 2 ^ 32 ≤ count_of n (pulses_at q) = m.enough (pulses_at q) (pulses-most q b) (s.above q a b) in
+            grind (arith, nat_tests)))
+
+-- Halving: low is 0 or costs less, and from high on nothing does.
+pub record Halving (n : ℕ) (b : ℤ) (last low high : ℕ) : Type 0 where
+  pub ordered : low < high
+  pub within : high ≤ last + 1
+  pub below : 0 < low → int_lt (pos (cost_at n low)) b ≡ true
+  pub above : (q : ℕ) → high ≤ q → q ≤ last → int_lt (pos (cost_at n q)) b ≡ false
+
+pub halving-start : (n last : ℕ) (b : ℤ) → Halving n b last 0 (last + 1)
+halving-start n last b = record { ordered = omega arith; within = omega arith; below = λ z. absurd (omega arith); above = λ q h l. absurd (omega arith) }
+
+pub halving-low : (n last low high middle : ℕ) (b : ℤ) → Halving n b last low high → middle < high → int_lt (pos (cost_at n middle)) b ≡ true
+    → Halving n b last middle high
+halving-low n last low high middle b h l t = record { ordered = l; within = h.within; below = λ z. t; above = h.above }
+
+pub halving-high : (n last low high middle : ℕ) (b : ℤ) → 1 ≤ n → last ≡ last_of n → Halving n b last low high → low < middle → middle ≤ high
+    → int_lt (pos (cost_at n middle)) b ≡ false → Halving n b last low middle
+halving-high n last low high middle b p e h l m t = record {
+    ordered = l;
+    within = omega (arith, h.within);
+    below = h.below;
+    above = λ q a c.
+        let more = costs_rise n middle q p a (omega arith) in
+        grind (arith, ints) }
+
+pub halving-end : (n last low high : ℕ) (b : ℤ) → last ≡ last_of n → Halving n b last low high → high ≤ low + 1 → low ≡ index_below n b
+unfolding index_below
+halving-end n last low high b e h l =
+    rw (← e) (sym (greatest-is (λ q. int_lt (pos (cost_at n q)) b) last low (omega (arith, h.ordered, h.within)) h.below
+        (λ q a c. h.above q (omega (arith, h.ordered)) c)))
+
+-- The table's rows end at the most pulses.
+pub row-bounds : (n s e : ℕ) → 1 ≤ n → n ≤ 176 → s ≡ start_of (n - 1) → e ≡ start_of n → (s + 2 ≤ e) × (e ≤ 1963)
+row-bounds n s e h l e1 e2 =
+    let m : suc (n - 1) ≡ n = omega arith in
+    let f = rw m at (table-facts (n - 1) (omega arith)).two in
+    let g = rw m at (table-facts (n - 1) (omega arith)).last in
+    (omega arith, omega arith)
+
+pub row-most : (n s e : ℕ) → 1 ≤ n → n ≤ 176 → s ≡ start_of (n - 1) → e ≡ start_of n → IsMost n (e - s - 1)
+row-most n s e h l e1 e2 =
+    let m : suc (n - 1) ≡ n = omega arith in
+    let f = table-facts (n - 1) (omega arith) in
+    let fits = rw (m, ← e1, ← e2) at f.fits in
+    let enough = rw (m, ← e1, ← e2) at f.enough in
+    record {
+      below = fits;
+      enough = λ k a b. elim enough [
+          inl full ↦ absurd (omega arith)
+        | inr more ↦ omega (arith, count-rises n (e - s) k h (omega arith)) ] }
+
+-- The nearer of two neighbours.
+nearer_low : (b : ℤ) (cl ch : ℕ) → (pos 2 *ℤ b) ≤ℤ pos (cl + ch) → int_le (b -ℤ pos cl) (pos ch -ℤ b) ≡ true
+nearer_low b cl ch h = grind (arith, ints)
+
+nearer_high : (b : ℤ) (cl ch : ℕ) → pos (cl + ch) <ℤ (pos 2 *ℤ b) → int_le (b -ℤ pos cl) (pos ch -ℤ b) ≡ false
+nearer_high b cl ch h = grind (arith, ints)
+
+pub near-low : (n low high last cl ch : ℕ) (b : ℤ) → low ≡ index_below n b → last ≡ last_of n → high ≡ min (low + 1) last
+    → cl ≡ cost_at n low → ch ≡ cost_at n high → (pos 2 *ℤ b) ≤ℤ pos (cl + ch) → low ≡ index_near n b
+unfolding index_near
+near-low n low high last cl ch b e1 e2 e3 e4 e5 h =
+    let t : int_le (b -ℤ pos cl) (pos ch -ℤ b) ≡ true = nearer_low b cl ch h in
+    rw (← e1, ← e2, ← e3, ← e4, ← e5, t) refl
+
+pub near-high : (n low high last cl ch : ℕ) (b : ℤ) → low ≡ index_below n b → last ≡ last_of n → high ≡ min (low + 1) last
+    → cl ≡ cost_at n low → ch ≡ cost_at n high → pos (cl + ch) <ℤ (pos 2 *ℤ b) → high ≡ index_near n b
+unfolding index_near
+near-high n low high last cl ch b e1 e2 e3 e4 e5 h =
+    let t : int_le (b -ℤ pos cl) (pos ch -ℤ b) ≡ false = nearer_high b cl ch h in
+    rw (← e1, ← e2, ← e3, ← e4, ← e5, t) refl

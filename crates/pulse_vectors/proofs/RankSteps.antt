@@ -159,3 +159,9 @@ back-leads n k index upper t r h u e b = record {
     pulses = omega (arith, minus_size (k - t));
     within = b;
     joined = λ rest g. rw (e, u) (back_place n k (k - t) t r rest (omega arith) (omega arith) g) }
+
+pub ranked-next-at : (y : List ℤ) (left i behind at size ahead numbers : ℕ) → left ≡ i + 1 → numbers ≡ length y - left → Ranked y left behind at
+    → size ≡ unsigned_abs (get_or y i (pos 0)) → ahead ≡ stand_before numbers behind (get_or y i (pos 0)) → Ranked y i (behind + size) (at + ahead)
+ranked-next-at y left i behind at size ahead numbers e n r e1 e2 =
+    let e2' = rw n at e2 in
+    ranked-next y left i behind at size ahead e r e1 e2'

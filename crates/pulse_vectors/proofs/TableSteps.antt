@@ -8,6 +8,8 @@ use Rattle.pulse_vectors.specs.Tables.{HasPlace, IsSumsBelow, start_of}
 use Rattle.pulse_vectors.specs.Vectors.{count_of}
 use Rattle.pulse_vectors.proofs.Places.{count-suc, below-suc, below-zero, below_rises}
 use Rattle.pulse_vectors.proofs.RowSteps.{count_rises}
+use Rattle.pulse_vectors.proofs.Counts.{count_grows}
+use Rattle.pulse_vectors.proofs.RankSteps.{count-rises}
 use Rattle.pulse_vectors.proofs.TableFacts.{RowFacts, past_at, table-facts, past-next, start-first, sum-step, first_sum}
 
 pub starts_rise : (m n : ℕ) → m ≤ n → n ≤ 176 → start_of m ≤ start_of n
@@ -146,3 +148,24 @@ filling-end-at m n t last before s end sums e e1 e2 h f =
     let e1' = rw e at e1 in
     let e2' = rw (e, add-one) at e2 in
     rw (e, add-one) (filling-end n t last before sums f (omega arith))
+
+-- V(n, t) from two sums of one number fewer.
+pub count-by-two : (n m t a b : ℕ) → n ≡ suc m → a ≡ count_below m (t + 1) → b ≡ count_below m t → a + b ≡ count_of n t
+count-by-two n m t a b e e1 e2 =
+    let e1' = rw add-one at e1 in
+    rw e (omega (arith, count-suc m t, below-suc m t))
+
+pub count-by-two-fits : (m t a b : ℕ) → HasPlace m t → a ≡ count_below m (t + 1) → b ≡ count_below m t → a + b < 2 ^ 32
+count-by-two-fits m t a b p e1 e2 = omega (arith, count-by-two (suc m) m t a b refl e1 e2, place-fits m t p)
+
+-- The vectors that stand before a negative first number.
+pub sum-fits : (m t here place a b : ℕ) → here ≡ place → HasPlace m place → a ≡ count_below m (here + 1) → b ≡ count_below m t → t ≤ here → a + b < 2 ^ 32
+sum-fits m t here place a b e p e1 e2 h =
+    let e1' = rw e at e1 in
+    omega (arith, count-by-two-fits m place a (count_below m place) p e1' refl, below_rises m t place (omega arith))
+
+-- What a vector of n numbers with k pulses asks for is in the table.
+pub place-of : (n k m t : ℕ) → m < n → n ≤ 176 → k ≤ 128 → t ≤ k → count_of n k < 2 ^ 32 → HasPlace m t
+place-of n k m t h l b c f =
+    has-place m t (omega arith) (omega arith)
+        (omega (arith, count_grows (suc m) n t (omega arith), count-rises n t k (omega arith) c))

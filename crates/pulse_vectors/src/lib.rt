@@ -1,12 +1,14 @@
 //! Vectors.
 #![tactic(auto)]
 
+mod costs;
 mod laws;
 mod pulses;
 mod ranks;
 mod row;
 mod table;
 
+pub use costs::{cost, index_for, last_index};
 pub use laws::{law_costs_never_fall, law_counts, law_no_vector_twice, law_vectors_are_all};
 pub use pulses::pulses_of;
 pub use ranks::{count, rank, unrank};

@@ -6,9 +6,13 @@
 //! an index leads straight to its first number, and V(m + 1, t) = S(m, t) + S(m, t - 1).
 
 ghost use Rattle.std.specs.Prelude.{◌≡◌, ◌↔◌, ℕ, ◌+◌, ◌-◌, ◌*◌, ◌^◌, ◌<◌, ◌≤◌, List, length, unsigned_abs, slice_index, slice_get};
+ghost use Rattle.pulse_vectors.specs.Costs.{last_of, cost_at, index_below, index_near};
 ghost use Rattle.pulse_vectors.specs.Rows.{Leads, count_below, stand_before};
 ghost use Rattle.pulse_vectors.specs.Tables.{HasPlace, IsSums, IsSumsBelow, start_of};
 ghost use Rattle.pulse_vectors.specs.Vectors.{vectors, count_of, pulse_sum};
+
+use crate::pulses::{eighths_of, pulses_of};
+use crate::ranks::Number;
 
 /// Where the sums of m numbers begin in the table, for m from 0 to 175, and the table's length at
 /// 176. They go from t = 0 to the most pulses, up to 128, with which fewer than 2^32 vectors of
@@ -45,6 +49,175 @@ impl PulseTable {
             fill_row(&mut sums, m);
         }
         PulseTable { sums }
+    }
+
+    /// The place of the vector in the order of all vectors of its length and its number of pulses.
+    /// `y` has 1 to 176 numbers and 1 to 128 pulses, and there are fewer than 2^32 such vectors.
+    pub fn rank(&self, y: &[i32]) -> u32
+        requires numbers { (1 ≤ length y.now) × (length y.now ≤ 176) }
+        requires pulses { (1 ≤ pulse_sum y.now) × (pulse_sum y.now ≤ 128) }
+        requires fits { count_of (length y.now) (pulse_sum y.now) < 2 ^ 32 }
+        ensures below { result < count_of (length y.now) (pulse_sum y.now) }
+        ensures stands { slice_get (vectors (length y.now) (pulse_sum y.now)) result ≡ Some y.now }
+        ensures only { (i : ℕ) → slice_get (vectors (length y.now) (pulse_sum y.now)) i ≡ Some y.now → i ≡ result }
+    {
+        let mut behind = 0;
+        let mut place = 0;
+        for i in (0..y.len()).rev() {
+            place += self.before((y.len() - 1 - i) as u32, y[i], behind);
+            behind += y[i].unsigned_abs();
+        }
+        place
+    }
+
+    /// Writes the vector that stands at place `index` in the order of all vectors with the length of
+    /// `y` and `pulses` pulses. `y` has 1 to 176 numbers, `pulses` is 1 to 128, there are fewer than
+    /// 2^32 such vectors, and `index` is below their count.
+    pub fn unrank(&self, index: u32, pulses: u32, y: &mut [i32])
+        requires numbers { (1 ≤ length y.old) × (length y.old ≤ 176) }
+        requires pulses { (1 ≤ pulses) × (pulses ≤ 128) }
+        requires fits { count_of (length y.old) pulses < 2 ^ 32 }
+        requires below { index < count_of (length y.old) pulses }
+        ensures { slice_get (vectors (length y.old) pulses) index ≡ Some y.new }
+    {
+        let mut behind = y.len() as u32;
+        let mut left = pulses;
+        let mut place = index;
+        for x in y.iter_mut() {
+            behind -= 1;
+            let number = self.first_number(behind, place, left);
+            *x = number.value;
+            left = number.behind;
+            place = number.place;
+        }
+    }
+
+    /// The greatest index up to 40 whose vectors of `numbers` numbers, from 2 to 176, number fewer
+    /// than 2^32.
+    pub fn last_index(&self, numbers: u32) -> u32
+        requires { (2 ≤ numbers) × (numbers ≤ 176) }
+        ensures { result ≡ last_of numbers }
+    {
+        let most = (start_of(numbers) - start_of(numbers - 1) - 1) as u32;
+        let mut index = most.min(40);
+        while pulses_of(index) > most {
+            index -= 1;
+        }
+        index
+    }
+
+    /// What an index costs for vectors of `numbers` numbers, from 2 to 176: the logarithm of their
+    /// count in eighths of a bit, rounded up, and nothing for index 0. `index` is at most
+    /// `last_index(numbers)`.
+    pub fn cost(&self, numbers: u32, index: u32) -> u32
+        requires numbers { (2 ≤ numbers) × (numbers ≤ 176) }
+        requires index { (index ≤ 40) × (index ≤ last_of numbers) }
+        ensures exact { result ≡ cost_at numbers index }
+        ensures most { result ≤ 264 }
+    {
+        if index == 0 {
+            0
+        } else {
+            eighths_of(self.count(numbers, pulses_of(index)))
+        }
+    }
+
+    /// The index whose cost is nearest to `bits` eighths of a bit, the lower at equal distances, for
+    /// vectors of `numbers` numbers, from 2 to 176.
+    pub fn index_for(&self, numbers: u32, bits: i32) -> u32
+        requires { (2 ≤ numbers) × (numbers ≤ 176) }
+        ensures { result ≡ index_near numbers bits }
+    {
+        let last = self.last_index(numbers);
+        let low = self.index_below(numbers, last, bits);
+        let high = (low + 1).min(last);
+        let sum = self.cost(numbers, low) + self.cost(numbers, high);
+        if 2 * bits as i64 <= sum as i64 { low } else { high }
+    }
+
+    /// The greatest index up to `last` that is 0 or costs less than `bits`, by halving.
+    fn index_below(&self, numbers: u32, last: u32, bits: i32) -> u32
+        requires numbers { (2 ≤ numbers) × (numbers ≤ 176) }
+        requires last { last ≡ last_of numbers }
+        ensures exact { result ≡ index_below numbers bits }
+        ensures within { result ≤ last }
+    {
+        let mut low = 0;
+        let mut high = last + 1;
+        while low + 1 < high {
+            let middle = (low + high) / 2;
+            if (self.cost(numbers, middle) as i32) < bits {
+                low = middle;
+            } else {
+                high = middle;
+            }
+        }
+        low
+    }
+
+    /// V(numbers, pulses), at least 1.
+    fn count(&self, numbers: u32, pulses: u32) -> u32
+        requires numbers { 1 ≤ numbers }
+        requires place { HasPlace (numbers - 1) pulses }
+        ensures exact { result ≡ count_of numbers pulses }
+        ensures some { 1 ≤ result }
+    {
+        self.sum(numbers - 1, pulses) + self.sum_below(numbers - 1, pulses)
+    }
+
+    /// How many vectors stand before those that begin with `x`, where the `numbers` numbers behind
+    /// it hold `behind` pulses.
+    fn before(&self, numbers: u32, x: i32, behind: u32) -> u32
+        requires { HasPlace numbers (unsigned_abs x + behind) }
+        ensures { result ≡ stand_before numbers behind x }
+    {
+        let fewer = self.sum_below(numbers, behind);
+        if x < 0 {
+            self.sum(numbers, behind + x.unsigned_abs()) + fewer
+        } else {
+            fewer
+        }
+    }
+
+    /// The first number of the vector at place `index` with `numbers` numbers behind the first and
+    /// `pulses` pulses.
+    fn first_number(&self, numbers: u32, index: u32, pulses: u32) -> Number
+        requires place { HasPlace numbers pulses }
+        requires below { index < count_of (numbers + 1) pulses }
+        ensures { Leads numbers pulses index result.value result.behind result.place }
+    {
+        let upper = self.sum(numbers, pulses);
+        if index < upper {
+            let behind = self.pulses_behind(numbers, index, pulses);
+            Number {
+                value: (pulses - behind) as i32,
+                behind,
+                place: index - self.sum_below(numbers, behind),
+            }
+        } else {
+            let behind = self.pulses_behind(numbers, index - upper, pulses - 1);
+            Number {
+                value: -((pulses - behind) as i32),
+                behind,
+                place: index - upper - self.sum_below(numbers, behind),
+            }
+        }
+    }
+
+    /// How many pulses stand behind the first number where `index` numbers the vectors by them, from
+    /// 0 to `most`: the least t with `index` below S(numbers, t).
+    fn pulses_behind(&self, numbers: u32, index: u32, most: u32) -> u32
+        requires place { HasPlace numbers most }
+        requires below { index < count_below numbers (most + 1) }
+        ensures most { result ≤ most }
+        ensures from { count_below numbers result ≤ index }
+        ensures to { index < count_below numbers (result + 1) }
+    {
+        let mut behind = most;
+        while index < self.sum_below(numbers, behind) {
+            behind -= 1;
+        }
+        behind
     }
 
     /// S(numbers, pulses).
