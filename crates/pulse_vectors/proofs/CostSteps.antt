@@ -1,7 +1,7 @@
 -- The pulses of an index, the last index, and the costs.
 use Rattle.std.proofs.Common.{◌≡◌, ◌^◌, ℕ, zero, suc, ◌+◌, ◌-◌, ◌*◌, ◌<◌, ◌≤◌, ◌⊎◌, inl, inr, refl, sym, ◌∙◌, ap, subst, arith}
-use Rattle.std.specs.Prelude.{Bool, true, false, ◌&&◌, nat_lt, nat_le, min, ℤ, pos, int_lt, int_le, ◌*ℤ◌, ◌-ℤ◌, ◌≤ℤ◌, ◌<ℤ◌}
-use Rattle.std.proofs.lemmas.Bool.{cases_lt, leb-true, ltb-true}
+use Rattle.std.specs.Prelude.{Bool, true, false, ◌&&◌, nat_lt, nat_le, min, ℤ, pos, int_lt, int_le, unsigned_abs, ◌*ℤ◌, ◌-ℤ◌, ◌≤ℤ◌, ◌<ℤ◌}
+use Rattle.std.proofs.lemmas.Bool.{cases_lt, cases_Bool, leb-true, ltb-true}
 use Rattle.std.proofs.lemmas.Bool.Decides.{nat_tests}
 use Rattle.std.proofs.lemmas.Int.{ints}
 use Rattle.pulse_vectors.specs.Costs.{greatest, pulses_at, last_of, log_eighths, cost_at, index_below, index_near}
@@ -11,7 +11,7 @@ use Rattle.pulse_vectors.proofs.Counts.{count-no-pulses}
 use Rattle.pulse_vectors.proofs.RankSteps.{count-rises}
 use Rattle.pulse_vectors.proofs.TableFacts.{both, table-facts}
 use Rattle.pulse_vectors.proofs.TableSteps.{has-place}
-use Rattle.pulse_vectors.proofs.Logs.{greatest-is, greatest-passes, greatest-within, eighths_rise}
+use Rattle.pulse_vectors.proofs.Logs.{greatest-is, greatest-passes, greatest-within, greatest-above, eighths_rise}
 
 -- A test that holds of each number below a bound.
 unfoldable pub holds_below : (ℕ → Bool) → ℕ → Bool
@@ -200,3 +200,78 @@ unfolding index_near
 near-high n low high last cl ch b e1 e2 e3 e4 e5 h =
     let t : int_le (b -ℤ pos cl) (pos ch -ℤ b) ≡ false = nearer_high b cl ch h in
     rw (← e1, ← e2, ← e3, ← e4, ← e5, t) refl
+
+below_bits : (c : ℕ) (b : ℤ) → int_lt (pos c) b ≡ true → pos c <ℤ b
+below_bits c b h = grind (arith, ints)
+
+above_bits : (c : ℕ) (b : ℤ) → int_lt (pos c) b ≡ false → b ≤ℤ pos c
+above_bits c b h = grind (arith, ints)
+
+at_most_bits : (x y : ℤ) → int_le x y ≡ true → x ≤ℤ y
+at_most_bits x y h = grind (arith, ints)
+
+over_bits : (x y : ℤ) → int_le x y ≡ false → y <ℤ x
+over_bits x y h = grind (arith, ints)
+
+-- The index for a number of bits is nearest: no index is nearer, and one just as near costs no less.
+pub record IsNearest (chosen other : ℕ) (b : ℤ) : Type 0 where
+  pub near : unsigned_abs (pos chosen -ℤ b) ≤ unsigned_abs (pos other -ℤ b)
+  pub lower : unsigned_abs (pos other -ℤ b) ≡ unsigned_abs (pos chosen -ℤ b) → chosen ≤ other
+
+low_under : (l q : ℕ) (b : ℤ) → q ≤ l → (q ≡ l) ⊎ (pos l <ℤ b) → IsNearest l q b
+low_under l q b h (inl same) = record { near = rw same (omega arith); lower = λ e. omega arith }
+low_under l q b h (inr less) = record { near = omega (arith, ints); lower = λ e. omega (arith, ints) }
+
+low_over : (l high q : ℕ) (b : ℤ) → l ≤ high → high ≤ q → b ≤ℤ pos high → (b -ℤ pos l) ≤ℤ (pos high -ℤ b) → IsNearest l q b
+low_over l high q b h1 h2 h3 h4 = record { near = omega (arith, ints); lower = λ e. omega arith }
+
+high_over : (high q : ℕ) (b : ℤ) → high ≤ q → b ≤ℤ pos high → IsNearest high q b
+high_over high q b h1 h2 = record { near = omega (arith, ints); lower = λ e. omega arith }
+
+high_under : (l high q : ℕ) (b : ℤ) → q ≤ l → (high ≡ l) ⊎ (b ≤ℤ pos high) → (pos high -ℤ b) <ℤ (b -ℤ pos l) → IsNearest high q b
+high_under l high q b h (inl same) less = record { near = omega (arith, ints); lower = λ e. omega (arith, ints) }
+high_under l high q b h (inr more) less = record { near = omega (arith, ints); lower = λ e. omega (arith, ints) }
+
+-- The greatest index that is 0 or costs less, by what is known of it.
+index_below-within : (n : ℕ) (b : ℤ) → index_below n b ≤ last_of n
+unfolding index_below
+index_below-within n b = greatest-within (λ q. int_lt (pos (cost_at n q)) b) (last_of n)
+
+index_below-less : (n : ℕ) (b : ℤ) → (index_below n b ≡ 0) ⊎ (pos (cost_at n (index_below n b)) <ℤ b)
+unfolding index_below
+index_below-less n b = elim (greatest-passes (λ q. int_lt (pos (cost_at n q)) b) (last_of n)) [
+    inl none ↦ inl none
+  | inr hit ↦ inr (below_bits _ _ hit) ]
+
+index_below-above : (n q : ℕ) (b : ℤ) → index_below n b < q → q ≤ last_of n → b ≤ℤ pos (cost_at n q)
+unfolding index_below
+index_below-above n q b h l = above_bits _ _ (greatest-above (λ q. int_lt (pos (cost_at n q)) b) (last_of n) q h l)
+
+nearest-low : (n q low high : ℕ) (b : ℤ) → 1 ≤ n → q ≤ last_of n → low ≡ index_below n b → high ≡ min (low + 1) (last_of n)
+    → (b -ℤ pos (cost_at n low)) ≤ℤ (pos (cost_at n high) -ℤ b) → IsNearest (cost_at n low) (cost_at n q) b
+nearest-low n q low high b h l e1 e2 t = elim (cases_lt low q) [
+    inl over ↦ low_over (cost_at n low) (cost_at n high) (cost_at n q) b
+        (costs_rise n low high h (omega arith) (omega arith)) (costs_rise n high q h (omega arith) l)
+        (index_below-above n high b (omega arith) (omega arith)) t
+  | inr under ↦
+        let within : low ≤ last_of n = omega (arith, index_below-within n b) in
+        low_under (cost_at n low) (cost_at n q) b (costs_rise n q low h under within) (elim (index_below-less n b) [
+            inl none ↦ let same : q ≡ low = omega arith in inl (ap (cost_at n) same)
+          | inr less ↦ inr (rw e1 less) ]) ]
+
+nearest-high : (n q low high : ℕ) (b : ℤ) → 1 ≤ n → q ≤ last_of n → low ≡ index_below n b → high ≡ min (low + 1) (last_of n)
+    → (pos (cost_at n high) -ℤ b) <ℤ (b -ℤ pos (cost_at n low)) → IsNearest (cost_at n high) (cost_at n q) b
+nearest-high n q low high b h l e1 e2 t = elim (cases_lt low q) [
+    inl over ↦ high_over (cost_at n high) (cost_at n q) b (costs_rise n high q h (omega arith) l) (index_below-above n high b (omega arith) (omega arith))
+  | inr under ↦
+        let within : low ≤ last_of n = omega (arith, index_below-within n b) in
+        high_under (cost_at n low) (cost_at n high) (cost_at n q) b (costs_rise n q low h under within) (elim (cases_lt low (last_of n)) [
+            inl more ↦ inr (index_below-above n high b (omega arith) (omega arith))
+          | inr end ↦ let same : high ≡ low = omega arith in inl (ap (cost_at n) same) ]) t ]
+
+pub index-nearest : (n q : ℕ) (b : ℤ) → 1 ≤ n → q ≤ last_of n → IsNearest (cost_at n (index_near n b)) (cost_at n q) b
+unfolding index_near
+index-nearest n q b h l =
+    elim (cases_Bool (int_le (b -ℤ pos (cost_at n (index_below n b))) (pos (cost_at n (min (index_below n b + 1) (last_of n))) -ℤ b))) [
+        inl hit ↦ rw hit (nearest-low n q (index_below n b) (min (index_below n b + 1) (last_of n)) b h l refl refl (at_most_bits _ _ hit))
+      | inr miss ↦ rw miss (nearest-high n q (index_below n b) (min (index_below n b + 1) (last_of n)) b h l refl refl (over_bits _ _ miss)) ]

@@ -1,4 +1,5 @@
 pub mod CostSteps
+pub mod Cover
 pub mod Counts
 pub mod Logs
 pub mod Places

@@ -20,7 +20,7 @@ digits-start x h = record { value = omega arith; low = omega arith; room = omega
 pub halved : ℕ → ℕ
 halved x = (x + x / 65536) / 2 ^ (x / 65536)
 
-digit_cases : (x : ℕ) → x ≤ 131069 → (x / 65536 ≡ 0) ⊎ (x / 65536 ≡ 1)
+pub digit_cases : (x : ℕ) → x ≤ 131069 → (x / 65536 ≡ 0) ⊎ (x / 65536 ≡ 1)
 digit_cases x h = elim (cases_lt x 65536) [ inl low ↦ inl (omega arith) | inr high ↦ inr (omega arith) ]
 
 pub halved-below : (x digit : ℕ) → x ≤ 131069 → digit ≡ x / 65536 → (x + digit) / 2 ^ digit ≤ 65535
@@ -34,7 +34,7 @@ digit_small x h = omega arith
 pub square-below : (y : ℕ) → y ≤ 65535 → y * y ≤ 4294836225
 square-below y h = mul-le-mul h h
 
-log-suc : (s x : ℕ) → log_digits (suc s) x ≡ (x / 65536) * 2 ^ s + log_digits s (squared ((x + x / 65536) / 2 ^ (x / 65536)))
+pub log-suc : (s x : ℕ) → log_digits (suc s) x ≡ (x / 65536) * 2 ^ s + log_digits s (squared ((x + x / 65536) / 2 ^ (x / 65536)))
 unfolding log_digits
 log-suc s x = refl
 
@@ -96,7 +96,7 @@ unfolding log_eighths
 eighths-is v w e h b l q = rw (whole-is v w h b l) (ap (λ n. 8 * w + n) q)
 
 -- The digits are fewer than 2 to their number, and never fall.
-next-low : (x : ℕ) → x ≤ 131069 → squared ((x + x / 65536) / 2 ^ (x / 65536)) ≤ 131069
+pub next-low : (x : ℕ) → x ≤ 131069 → squared ((x + x / 65536) / 2 ^ (x / 65536)) ≤ 131069
 next-low x h = omega (arith, square-below ((x + x / 65536) / 2 ^ (x / 65536)) (halved-below x (x / 65536) h refl))
 
 pub log-most : (s x : ℕ) → x ≤ 131069 → log_digits s x ≤ 2 ^ s
@@ -196,7 +196,7 @@ whole-facts v h b = record {
     most = omega (arith, whole-most v) }
 
 -- A number over its leading power of two, rounded up, is at most 2, and rises with the number.
-scaled-most : (v w : ℕ) → v < 2 * 2 ^ w → (v * 32768 + (2 ^ w - 1)) / 2 ^ w ≤ 65536
+pub scaled-most : (v w : ℕ) → v < 2 * 2 ^ w → (v * 32768 + (2 ^ w - 1)) / 2 ^ w ≤ 65536
 scaled-most v w h = elim (cases_lt ((v * 32768 + (2 ^ w - 1)) / 2 ^ w) 65537) [
     inl low ↦ omega arith
   | inr past ↦

@@ -6,9 +6,9 @@ use Rattle.std.proofs.lemmas.List.{take_all}
 use Rattle.std.proofs.lemmas.List.Sums.{sum_by-take-drop}
 use Rattle.pulse_vectors.specs.Rows.{count_below, stand_before, RowShape, Leads}
 use Rattle.pulse_vectors.specs.Vectors.{count_of, pulse_sum, vectors, minus}
-use Rattle.pulse_vectors.proofs.Places.{place, place-get, place-only, pulse_sum-cons, within_count, front_place, back_place, minus_size}
+use Rattle.pulse_vectors.proofs.Places.{place, place-get, place-only, pulse_sum-cons, within_count, front_place, back_place, minus_size, below-zero}
 use Rattle.pulse_vectors.proofs.RowSteps.{count_rises}
-use Rattle.pulse_vectors.proofs.Counts.{count_grows}
+use Rattle.pulse_vectors.proofs.Counts.{count_grows, count-no-pulses}
 
 -- What a loop from the last number to the first knows, i numbers left: the pulses and the place of
 -- the numbers behind.
@@ -165,3 +165,12 @@ pub ranked-next-at : (y : List ℤ) (left i behind at size ahead numbers : ℕ) 
 ranked-next-at y left i behind at size ahead numbers e n r e1 e2 =
     let e2' = rw n at e2 in
     ranked-next y left i behind at size ahead e r e1 e2'
+
+pub stands-full : (n k index : ℕ) (y : List ℤ) → slice_get (vectors n k) index ≡ Some y → pulse_sum y ≡ k
+stands-full n k index y g = (place-only n k index y g).full
+
+-- Without pulses one vector is left, of zeros.
+pub none-leads : (n k index : ℕ) → k ≡ 0 → index < count_of (n + 1) k → Leads n k index (pos 0) 0 0
+none-leads n k index e h =
+    let h' = rw (e, count-no-pulses (n + 1)) at h in
+    rw e (front-leads n 0 index 0 0 (omega arith) (omega (arith, below-zero n)) (omega (arith, count-no-pulses n)))

@@ -10,7 +10,8 @@ use crate::table::PulseTable;
 /// 2^32.
 pub fn last_index(numbers: u32) -> u32
     requires { (2 ≤ numbers) × (numbers ≤ 176) }
-    ensures { result ≡ last_of numbers }
+    ensures exact { result ≡ last_of numbers }
+    ensures most { result ≤ 40 }
 {
     PulseTable::new().last_index(numbers)
 }
@@ -31,7 +32,8 @@ pub fn cost(numbers: u32, index: u32) -> u32
 /// vectors of `numbers` numbers, from 2 to 176.
 pub fn index_for(numbers: u32, bits: i32) -> u32
     requires { (2 ≤ numbers) × (numbers ≤ 176) }
-    ensures { result ≡ index_near numbers bits }
+    ensures exact { result ≡ index_near numbers bits }
+    ensures within { (result ≤ 40) × (result ≤ last_of numbers) }
 {
     PulseTable::new().index_for(numbers, bits)
 }

@@ -9,7 +9,8 @@ ghost use Rattle.pulse_vectors.specs.Costs.{pulses_at, log_digits, log_eighths};
 #[tactic(auto, unfolding(crate::specs::Costs::pulses_at))]
 pub fn pulses_of(index: u32) -> u32
     requires { index ≤ 40 }
-    ensures { result ≡ pulses_at index }
+    ensures exact { result ≡ pulses_at index }
+    ensures most { result ≤ 128 }
 {
     if index < 8 {
         index

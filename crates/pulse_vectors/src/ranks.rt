@@ -159,7 +159,8 @@ pub fn unrank(index: u32, pulses: u32, y: &mut [i32])
     requires pulses { (1 ≤ pulses) × (pulses ≤ 4096) }
     requires fits { count_of (length y.old) pulses < 2 ^ 32 }
     requires below { index < count_of (length y.old) pulses }
-    ensures { slice_get (vectors (length y.old) pulses) index ≡ Some y.new }
+    ensures stands { slice_get (vectors (length y.old) pulses) index ≡ Some y.new }
+    ensures pulses { pulse_sum y.new ≡ pulses }
 {
     let mut row = row_of(y.len() as u32, pulses);
     let mut left = pulses;

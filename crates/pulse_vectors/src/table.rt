@@ -43,7 +43,9 @@ pub struct PulseTable {
 
 impl PulseTable {
     /// The table, made from the recurrence.
-    pub fn new() -> PulseTable {
+    pub fn new() -> PulseTable
+        ensures { IsSums result.sums }
+    {
         let mut sums = [1; 1963];
         for m in 1..176 {
             fill_row(&mut sums, m);
@@ -78,7 +80,8 @@ impl PulseTable {
         requires pulses { (1 ≤ pulses) × (pulses ≤ 128) }
         requires fits { count_of (length y.old) pulses < 2 ^ 32 }
         requires below { index < count_of (length y.old) pulses }
-        ensures { slice_get (vectors (length y.old) pulses) index ≡ Some y.new }
+        ensures stands { slice_get (vectors (length y.old) pulses) index ≡ Some y.new }
+        ensures pulses { pulse_sum y.new ≡ pulses }
     {
         let mut behind = y.len() as u32;
         let mut left = pulses;
@@ -96,7 +99,8 @@ impl PulseTable {
     /// than 2^32.
     pub fn last_index(&self, numbers: u32) -> u32
         requires { (2 ≤ numbers) × (numbers ≤ 176) }
-        ensures { result ≡ last_of numbers }
+        ensures exact { result ≡ last_of numbers }
+        ensures most { result ≤ 40 }
     {
         let most = (start_of(numbers) - start_of(numbers - 1) - 1) as u32;
         let mut index = most.min(40);
@@ -126,7 +130,8 @@ impl PulseTable {
     /// vectors of `numbers` numbers, from 2 to 176.
     pub fn index_for(&self, numbers: u32, bits: i32) -> u32
         requires { (2 ≤ numbers) × (numbers ≤ 176) }
-        ensures { result ≡ index_near numbers bits }
+        ensures exact { result ≡ index_near numbers bits }
+        ensures within { (result ≤ 40) × (result ≤ last_of numbers) }
     {
         let last = self.last_index(numbers);
         let low = self.index_below(numbers, last, bits);
@@ -186,6 +191,13 @@ impl PulseTable {
         requires below { index < count_of (numbers + 1) pulses }
         ensures { Leads numbers pulses index result.value result.behind result.place }
     {
+        if pulses == 0 {
+            return Number {
+                value: 0,
+                behind: 0,
+                place: 0,
+            };
+        }
         let upper = self.sum(numbers, pulses);
         if index < upper {
             let behind = self.pulses_behind(numbers, index, pulses);

@@ -7,7 +7,7 @@ use Rattle.pulse_vectors.specs.Rows.{count_below}
 use Rattle.pulse_vectors.specs.Vectors.{minus}
 use Rattle.pulse_vectors.proofs.Counts.{below-positive, count-by-sum}
 use Rattle.pulse_vectors.proofs.Places.{below-suc}
-use Rattle.pulse_vectors.proofs.RankSteps.{front-leads, back-leads}
+use Rattle.pulse_vectors.proofs.RankSteps.{front-leads, back-leads, none-leads}
 use Rattle.pulse_vectors.proofs.TableSteps.{place-inside}
 use Rattle.pulse_vectors.proofs.table.PulseTable.first_number.Goals as goal
 
@@ -50,3 +50,6 @@ returns-else-index-upper c =
     rw e (back-leads _ _ _ c.sum-upper.result _ _ (omega (arith, c.pulses_behind-behind-else-index-upper.ensures.most)) upper
         (omega (arith, c.pulses_behind-behind-else-index-upper.ensures.from, c.sum_below-else-index-upper.ensures))
         (omega (arith, c.pulses_behind-behind-else-index-upper.ensures.from, c.sum_below-else-index-upper.ensures, below-suc c.args.numbers c.pulses_behind-behind-else-index-upper.result)))
+
+pub returns-then-pulses-eq0 : goal.returns-then-pulses-eq0
+returns-then-pulses-eq0 c = none-leads _ _ _ (omega arith) c.requires.below

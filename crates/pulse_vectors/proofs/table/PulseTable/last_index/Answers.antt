@@ -15,12 +15,12 @@ pub loop-index-init : goal.loop-index-init
 loop-index-init c = rw c.min-index.ensures (last-start _)
 
 pub overflow_sub-index : goal.overflow_sub-index
-overflow_sub-index c = last-positive (c.start_of.result - c.start_of-2.result - 1) _ _ c.pulses_of.ensures (omega arith)
+overflow_sub-index c = last-positive (c.start_of.result - c.start_of-2.result - 1) _ _ c.pulses_of.ensures.exact (omega arith)
 
 pub loop-index-smaller : goal.loop-index-smaller
-loop-index-smaller c = let some = last-positive (c.start_of.result - c.start_of-2.result - 1) _ _ c.pulses_of.ensures (omega arith) in omega arith
+loop-index-smaller c = let some = last-positive (c.start_of.result - c.start_of-2.result - 1) _ _ c.pulses_of.ensures.exact (omega arith) in omega arith
 
-pub returns : goal.returns
-returns c =
+pub returns-clause-exact : goal.returns-clause-exact
+returns-clause-exact c =
     last-end c.args.numbers _ _ _ (omega arith) (row-most c.args.numbers _ _ (omega arith) (omega arith) c.start_of-2.ensures c.start_of.ensures)
-        c.loop-index.invariant c.pulses_of.ensures (omega arith)
+        c.loop-index.invariant c.pulses_of.ensures.exact (omega arith)
