@@ -1,10 +1,10 @@
 -- The pulses of an index, the last index, and the costs.
-use Rattle.std.proofs.Common.{◌≡◌, ◌^◌, ℕ, zero, suc, ◌+◌, ◌-◌, ◌*◌, ◌<◌, ◌≤◌, ◌⊎◌, inl, inr, refl, sym, ◌∙◌, ap, subst, arith}
+use Rattle.std.proofs.Common.{◌≡◌, ◌^◌, ℕ, zero, suc, ◌+◌, ◌-◌, ◌<◌, ◌≤◌, ◌⊎◌, inl, inr, refl, sym, ◌∙◌, ap, arith}
 use Rattle.std.specs.Prelude.{Bool, true, false, ◌&&◌, nat_lt, nat_le, min, ℤ, pos, int_lt, int_le, unsigned_abs, ◌*ℤ◌, ◌-ℤ◌, ◌≤ℤ◌, ◌<ℤ◌}
 use Rattle.std.proofs.lemmas.Bool.{cases_lt, cases_Bool, leb-true, ltb-true}
 use Rattle.std.proofs.lemmas.Bool.Decides.{nat_tests}
 use Rattle.std.proofs.lemmas.Int.{ints}
-use Rattle.pulse_vectors.specs.Costs.{greatest, pulses_at, last_of, log_eighths, cost_at, index_below, index_near}
+use Rattle.pulse_vectors.specs.Costs.{pulses_at, last_of, log_eighths, cost_at, index_below, index_near}
 use Rattle.pulse_vectors.specs.Tables.{HasPlace, start_of}
 use Rattle.pulse_vectors.specs.Vectors.{count_of}
 use Rattle.pulse_vectors.proofs.Counts.{count-no-pulses}
@@ -22,8 +22,9 @@ holds-at : (p : ℕ → Bool) (n k : ℕ) → holds_below p n ≡ true → k < n
 unfolding holds_below
 holds-at p zero k e h = absurd (omega arith)
 holds-at p (suc n) k e h = elim (cases_lt k n) [
-    inl less ↦ holds-at p n k (both _ _ e).1 less
-  | inr last ↦ let same : k ≡ n = omega arith in rw same (both _ _ e).0 ]
+  | inl less ↦ holds-at p n k (both _ _ e).1 less
+  | inr last ↦ let same : k ≡ n = omega arith in rw same (both _ _ e).0
+]
 
 -- An index stands for at least as many pulses, for at most 128, and the next for no fewer.
 abbrev pulses_test : ℕ → Bool
@@ -48,8 +49,9 @@ pulses-next q h =
 pub pulses_rise : (q r : ℕ) → q ≤ r → r ≤ 40 → pulses_at q ≤ pulses_at r
 pulses_rise q zero h l = let e : q ≡ 0 = omega arith in rw e (omega arith)
 pulses_rise q (suc r) h l = elim (cases_lt r q) [
-    inl last ↦ let e : q ≡ suc r = omega arith in rw e (omega arith)
-  | inr within ↦ omega (arith, pulses_rise q r within (omega arith), pulses-next r l) ]
+  | inl last ↦ let e : q ≡ suc r = omega arith in rw e (omega arith)
+  | inr within ↦ omega (arith, pulses_rise q r within (omega arith), pulses-next r l)
+]
 
 pulses-zero : pulses_at 0 ≡ 0
 unfolding pulses_at
@@ -62,8 +64,9 @@ last-most n = greatest-within (λ q. nat_lt (count_of n (pulses_at q)) (2 ^ 32))
 last-fits : (n : ℕ) → count_of n (pulses_at (last_of n)) < 2 ^ 32
 unfolding last_of
 last-fits n = elim (greatest-passes (λ q. nat_lt (count_of n (pulses_at q)) (2 ^ 32)) 40) [
-    inl none ↦ rw (none, pulses-zero) (omega (arith, count-no-pulses n))
-  | inr hit ↦ ltb-true _ _ hit ]
+  | inl none ↦ rw (none, pulses-zero) (omega (arith, count-no-pulses n))
+  | inr hit ↦ ltb-true _ _ hit
+]
 
 pub index-fits : (n q : ℕ) → 1 ≤ n → q ≤ last_of n → count_of n (pulses_at q) < 2 ^ 32
 index-fits n q h l = omega (arith, last-fits n, count-rises n (pulses_at q) (pulses_at (last_of n)) h (pulses_rise q (last_of n) l (last-most n)))
@@ -78,8 +81,8 @@ costs_rise n zero r h l b = omega arith
 costs_rise n (suc q) zero h l b = absurd (omega arith)
 costs_rise n (suc q) (suc r) h l b =
     eighths_rise (count_of n (pulses_at (suc q))) (count_of n (pulses_at (suc r))) (count-some n (pulses_at (suc q)) h)
-        (count-rises n (pulses_at (suc q)) (pulses_at (suc r)) h (pulses_rise (suc q) (suc r) l (omega (arith, last-most n))))
-        (index-fits n (suc r) h b)
+    (count-rises n (pulses_at (suc q)) (pulses_at (suc r)) h (pulses_rise (suc q) (suc r) l (omega (arith, last-most n))))
+    (index-fits n (suc r) h b)
 
 pub index-place : (n q k : ℕ) → 1 ≤ n → n ≤ 176 → q ≤ last_of n → k ≡ pulses_at q → HasPlace (n - 1) k
 index-place n q k h l b e =
@@ -105,10 +108,12 @@ last-start most = record { within = omega arith; above = λ q h l. omega (arith,
 
 pub last-next : (most index k : ℕ) → LastSought most index → k ≡ pulses_at index → most < k → LastSought most (index - 1)
 last-next most index k s e h = record {
-    within = omega (arith, s.within);
-    above = λ q a b. elim (cases_lt index q) [
-        inl over ↦ s.above q over b
-      | inr here ↦ let same : q ≡ index = omega arith in rw same (omega arith) ] }
+  within = omega (arith, s.within);
+  above = λ q a b. elim (cases_lt index q) [
+    | inl over ↦ s.above q over b
+    | inr here ↦ let same : q ≡ index = omega arith in rw same (omega arith)
+  ];
+}
 
 pub last-positive : (most index k : ℕ) → k ≡ pulses_at index → most < k → 1 ≤ index
 last-positive most zero k e h = let e' = rw pulses-zero at e in absurd (omega arith)
@@ -123,12 +128,12 @@ pub last-end : (n most index k : ℕ) → 1 ≤ n → IsMost n most → LastSoug
 unfolding last_of
 last-end n most index k p m s e h =
     sym (greatest-is (λ q. nat_lt (count_of n (pulses_at q)) (2 ^ 32)) 40 index s.within
-        (λ z.
-            let fits : count_of n (pulses_at index) < 2 ^ 32 = omega (arith, m.below, count-rises n (pulses_at index) most p (omega arith)) in
-            grind (arith, nat_tests))
-        (λ q a b.
-            let past : 2 ^ 32 ≤ count_of n (pulses_at q) = m.enough (pulses_at q) (pulses-most q b) (s.above q a b) in
-            grind (arith, nat_tests)))
+    (λ z.
+    let fits : count_of n (pulses_at index) < 2 ^ 32 = omega (arith, m.below, count-rises n (pulses_at index) most p (omega arith)) in
+    grind (arith, nat_tests))
+    (λ q a b.
+    let past : 2 ^ 32 ≤ count_of n (pulses_at q) = m.enough (pulses_at q) (pulses-most q b) (s.above q a b) in
+    grind (arith, nat_tests)))
 
 -- Halving: low is 0 or costs less, and from high on nothing does.
 pub record Halving (n : ℕ) (b : ℤ) (last low high : ℕ) : Type 0 where
@@ -147,18 +152,19 @@ halving-low n last low high middle b h l t = record { ordered = l; within = h.wi
 pub halving-high : (n last low high middle : ℕ) (b : ℤ) → 1 ≤ n → last ≡ last_of n → Halving n b last low high → low < middle → middle ≤ high
     → int_lt (pos (cost_at n middle)) b ≡ false → Halving n b last low middle
 halving-high n last low high middle b p e h l m t = record {
-    ordered = l;
-    within = omega (arith, h.within);
-    below = h.below;
-    above = λ q a c.
-        let more = costs_rise n middle q p a (omega arith) in
-        grind (arith, ints) }
+  ordered = l;
+  within = omega (arith, h.within);
+  below = h.below;
+  above = λ q a c.
+      let more = costs_rise n middle q p a (omega arith) in
+      grind (arith, ints);
+}
 
 pub halving-end : (n last low high : ℕ) (b : ℤ) → last ≡ last_of n → Halving n b last low high → high ≤ low + 1 → low ≡ index_below n b
 unfolding index_below
 halving-end n last low high b e h l =
     rw (← e) (sym (greatest-is (λ q. int_lt (pos (cost_at n q)) b) last low (omega (arith, h.ordered, h.within)) h.below
-        (λ q a c. h.above q (omega (arith, h.ordered)) c)))
+    (λ q a c. h.above q (omega (arith, h.ordered)) c)))
 
 -- The table's rows end at the most pulses.
 pub row-bounds : (n s e : ℕ) → 1 ≤ n → n ≤ 176 → s ≡ start_of (n - 1) → e ≡ start_of n → (s + 2 ≤ e) × (e ≤ 1963)
@@ -177,8 +183,10 @@ row-most n s e h l e1 e2 =
     record {
       below = fits;
       enough = λ k a b. elim enough [
-          inl full ↦ absurd (omega arith)
-        | inr more ↦ omega (arith, count-rises n (e - s) k h (omega arith)) ] }
+        | inl full ↦ absurd (omega arith)
+        | inr more ↦ omega (arith, count-rises n (e - s) k h (omega arith))
+      ];
+    }
 
 -- The nearer of two neighbours.
 nearer_low : (b : ℤ) (cl ch : ℕ) → (pos 2 *ℤ b) ≤ℤ pos (cl + ch) → int_le (b -ℤ pos cl) (pos ch -ℤ b) ≡ true
@@ -240,8 +248,9 @@ index_below-within n b = greatest-within (λ q. int_lt (pos (cost_at n q)) b) (l
 index_below-less : (n : ℕ) (b : ℤ) → (index_below n b ≡ 0) ⊎ (pos (cost_at n (index_below n b)) <ℤ b)
 unfolding index_below
 index_below-less n b = elim (greatest-passes (λ q. int_lt (pos (cost_at n q)) b) (last_of n)) [
-    inl none ↦ inl none
-  | inr hit ↦ inr (below_bits _ _ hit) ]
+  | inl none ↦ inl none
+  | inr hit ↦ inr (below_bits _ _ hit)
+]
 
 index_below-above : (n q : ℕ) (b : ℤ) → index_below n b < q → q ≤ last_of n → b ≤ℤ pos (cost_at n q)
 unfolding index_below
@@ -250,28 +259,33 @@ index_below-above n q b h l = above_bits _ _ (greatest-above (λ q. int_lt (pos 
 nearest-low : (n q low high : ℕ) (b : ℤ) → 1 ≤ n → q ≤ last_of n → low ≡ index_below n b → high ≡ min (low + 1) (last_of n)
     → (b -ℤ pos (cost_at n low)) ≤ℤ (pos (cost_at n high) -ℤ b) → IsNearest (cost_at n low) (cost_at n q) b
 nearest-low n q low high b h l e1 e2 t = elim (cases_lt low q) [
-    inl over ↦ low_over (cost_at n low) (cost_at n high) (cost_at n q) b
-        (costs_rise n low high h (omega arith) (omega arith)) (costs_rise n high q h (omega arith) l)
-        (index_below-above n high b (omega arith) (omega arith)) t
+  | inl over ↦ low_over (cost_at n low) (cost_at n high) (cost_at n q) b
+      (costs_rise n low high h (omega arith) (omega arith)) (costs_rise n high q h (omega arith) l)
+      (index_below-above n high b (omega arith) (omega arith)) t
   | inr under ↦
-        let within : low ≤ last_of n = omega (arith, index_below-within n b) in
-        low_under (cost_at n low) (cost_at n q) b (costs_rise n q low h under within) (elim (index_below-less n b) [
-            inl none ↦ let same : q ≡ low = omega arith in inl (ap (cost_at n) same)
-          | inr less ↦ inr (rw e1 less) ]) ]
+      let within : low ≤ last_of n = omega (arith, index_below-within n b) in
+      low_under (cost_at n low) (cost_at n q) b (costs_rise n q low h under within) (elim (index_below-less n b) [
+        | inl none ↦ let same : q ≡ low = omega arith in inl (ap (cost_at n) same)
+        | inr less ↦ inr (rw e1 less)
+      ])
+]
 
 nearest-high : (n q low high : ℕ) (b : ℤ) → 1 ≤ n → q ≤ last_of n → low ≡ index_below n b → high ≡ min (low + 1) (last_of n)
     → (pos (cost_at n high) -ℤ b) <ℤ (b -ℤ pos (cost_at n low)) → IsNearest (cost_at n high) (cost_at n q) b
 nearest-high n q low high b h l e1 e2 t = elim (cases_lt low q) [
-    inl over ↦ high_over (cost_at n high) (cost_at n q) b (costs_rise n high q h (omega arith) l) (index_below-above n high b (omega arith) (omega arith))
+  | inl over ↦ high_over (cost_at n high) (cost_at n q) b (costs_rise n high q h (omega arith) l) (index_below-above n high b (omega arith) (omega arith))
   | inr under ↦
-        let within : low ≤ last_of n = omega (arith, index_below-within n b) in
-        high_under (cost_at n low) (cost_at n high) (cost_at n q) b (costs_rise n q low h under within) (elim (cases_lt low (last_of n)) [
-            inl more ↦ inr (index_below-above n high b (omega arith) (omega arith))
-          | inr end ↦ let same : high ≡ low = omega arith in inl (ap (cost_at n) same) ]) t ]
+      let within : low ≤ last_of n = omega (arith, index_below-within n b) in
+      high_under (cost_at n low) (cost_at n high) (cost_at n q) b (costs_rise n q low h under within) (elim (cases_lt low (last_of n)) [
+        | inl more ↦ inr (index_below-above n high b (omega arith) (omega arith))
+        | inr end ↦ let same : high ≡ low = omega arith in inl (ap (cost_at n) same)
+      ]) t
+]
 
 pub index-nearest : (n q : ℕ) (b : ℤ) → 1 ≤ n → q ≤ last_of n → IsNearest (cost_at n (index_near n b)) (cost_at n q) b
 unfolding index_near
 index-nearest n q b h l =
     elim (cases_Bool (int_le (b -ℤ pos (cost_at n (index_below n b))) (pos (cost_at n (min (index_below n b + 1) (last_of n))) -ℤ b))) [
-        inl hit ↦ rw hit (nearest-low n q (index_below n b) (min (index_below n b + 1) (last_of n)) b h l refl refl (at_most_bits _ _ hit))
-      | inr miss ↦ rw miss (nearest-high n q (index_below n b) (min (index_below n b + 1) (last_of n)) b h l refl refl (over_bits _ _ miss)) ]
+      | inl hit ↦ rw hit (nearest-low n q (index_below n b) (min (index_below n b + 1) (last_of n)) b h l refl refl (at_most_bits _ _ hit))
+      | inr miss ↦ rw miss (nearest-high n q (index_below n b) (min (index_below n b + 1) (last_of n)) b h l refl refl (over_bits _ _ miss))
+    ]

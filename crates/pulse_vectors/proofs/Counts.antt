@@ -1,14 +1,13 @@
 -- The counts: how they begin, grow with the numbers, and what bounds the place of a vector.
-use Rattle.std.proofs.Common.{◌≡◌, ◌^◌, ℕ, zero, suc, ◌+◌, ◌*◌, ◌<◌, ◌≤◌, inl, inr, List, [], ◌∷◌, length, drop, get_or, refl, sym, ◌∙◌, ap, arith, add-one, length-drop}
-use Rattle.std.specs.Prelude.{ℤ, pos, negsuc, true, false, ◌-◌, ◌/◌, slice_get, unsigned_abs}
+use Rattle.std.proofs.Common.{◌≡◌, ◌^◌, ℕ, zero, suc, ◌+◌, ◌*◌, ◌<◌, ◌≤◌, inl, inr, refl, sym, arith, add-one}
+use Rattle.std.specs.Prelude.{ℤ, pos, negsuc, true, false, ◌-◌, unsigned_abs}
 use Rattle.std.specs.Int.Signed.{lt_z}
 use Rattle.std.proofs.lemmas.Bool.{cases_lt}
 use Rattle.std.proofs.lemmas.Int.{ints}
-use Rattle.std.proofs.lemmas.List.Sums.{sum_by-take-drop}
 use Rattle.pulse_vectors.specs.Rows.{count_below, stand_before}
-use Rattle.pulse_vectors.specs.Vectors.{count_of, pulse_sum}
-use Rattle.pulse_vectors.proofs.Places.{count-suc, below-suc, below-zero, below_rises, place, place-get, within_count}
-use Rattle.pulse_vectors.proofs.RowSteps.{count-none, count-none-suc}
+use Rattle.pulse_vectors.specs.Vectors.{count_of}
+use Rattle.pulse_vectors.proofs.Places.{count-suc, below-suc, below-zero, below_rises}
+use Rattle.pulse_vectors.proofs.RowSteps.{count-none}
 
 pub count-no-pulses : (n : ℕ) → count_of n 0 ≡ 1
 count-no-pulses zero = count-none
@@ -20,8 +19,9 @@ count-three n k = rw (add-one n, add-one k) (omega (arith, count-suc n (suc k), 
 pub count_grows : (n m k : ℕ) → n ≤ m → count_of n k ≤ count_of m k
 count_grows n zero k h = let e : n ≡ 0 = omega arith in rw e (omega arith)
 count_grows n (suc m) k h = elim (cases_lt m n) [
-    inl last ↦ let e : n ≡ suc m = omega arith in rw e (omega arith)
-  | inr within ↦ omega (arith, count-suc m k, count_grows n m k within) ]
+  | inl last ↦ let e : n ≡ suc m = omega arith in rw e (omega arith)
+  | inr within ↦ omega (arith, count-suc m k, count_grows n m k within)
+]
 
 pub count-by-sum : (n k : ℕ) → 2 * count_below n k + count_of n k ≡ count_of (n + 1) k
 count-by-sum n k = rw add-one (omega (arith, count-suc n k))
@@ -63,10 +63,11 @@ below-next n t index r v e1 e2 h = rw add-one (omega (arith, below-suc n t))
 
 pub below-end : (n t index r v most : ℕ) → index ≡ count_below n t + r → v ≡ count_of n t → v ≤ r → index < count_below n (most + 1) → t + 1 ≤ most
 below-end n t index r v most e1 e2 h b = elim (cases_lt t most) [
-    inl less ↦ omega arith
+  | inl less ↦ omega arith
   | inr past ↦
-        let next = below-next n t index r v e1 e2 h in
-        absurd (omega (arith, below_rises n (most + 1) (t + 1) (omega arith))) ]
+      let next = below-next n t index r v e1 e2 h in
+      absurd (omega (arith, below_rises n (most + 1) (t + 1) (omega arith)))
+]
 
 pub below-positive : (n t : ℕ) → 0 < count_below n t → 1 ≤ t
 below-positive n zero h = absurd (omega (arith, below-zero n))

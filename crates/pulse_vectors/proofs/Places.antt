@@ -1,10 +1,9 @@
 -- Where a vector stands in the list of all vectors: the block of its first number, and the place
 -- of the rest in that block.
-use Rattle.std.proofs.Common.{zero-add, get_or, ◌≡◌, ℕ, zero, suc, ◌+◌, ◌-◌, ◌<◌, ◌≤◌, ◌⊎◌, inl, inr, List, [], ◌∷◌, ◌++◌, map, length, refl, sym, ◌∙◌, ap, subst, arith, length-append}
+use Rattle.std.proofs.Common.{zero-add, get_or, ◌≡◌, ℕ, zero, suc, ◌+◌, ◌-◌, ◌<◌, ◌≤◌, inl, inr, List, [], ◌∷◌, ◌++◌, map, length, refl, ◌∙◌, ap, subst, arith, length-append}
 use Rattle.std.specs.Prelude.{ℤ, pos, negsuc, unsigned_abs, slice_get}
-use Rattle.std.specs.declared.option.Option.{Option}
-use Rattle.std.specs.declared.option.Option.TheVariants.{Some, None}
-use Rattle.std.specs.List.{flat_map, sum_by, Contains}
+use Rattle.std.specs.declared.option.Option.TheVariants.{Some}
+use Rattle.std.specs.List.{flat_map, Contains}
 use Rattle.std.proofs.lemmas.Option.{slice_get-map, slice_get_within, slice_get-get_or, get_or_from_slice_get}
 use Rattle.std.proofs.lemmas.Bool.{cases_lt}
 use Rattle.std.proofs.lemmas.Grind.{flat_map-append}
@@ -12,7 +11,7 @@ use Rattle.std.proofs.lemmas.List.{length-map}
 use Rattle.std.proofs.lemmas.List.Sums.{sum_by-cons}
 use Rattle.std.proofs.Math.Nat.{eq-or-lt_of_le}
 use Rattle.pulse_vectors.specs.Rows.{count_below, stand_before}
-use Rattle.pulse_vectors.specs.Vectors.{pulse_sum, minus, down_from, coordinates, vectors, count_of}
+use Rattle.pulse_vectors.specs.Vectors.{pulse_sum, minus, down_from, vectors, count_of}
 
 -- Lists by place.
 
@@ -62,8 +61,9 @@ below-suc n t = refl
 pub below_rises : (n d t : ℕ) → d ≤ t → count_below n d ≤ count_below n t
 below_rises n d zero h = let e : d ≡ 0 = omega arith in rw e (omega arith)
 below_rises n d (suc t) h = elim (cases_lt t d) [
-    inl below ↦ let e : d ≡ suc t = omega arith in rw e (omega arith)
-  | inr within ↦ omega (arith, below-suc n t, below_rises n d t within) ]
+  | inl below ↦ let e : d ≡ suc t = omega arith in rw e (omega arith)
+  | inr within ↦ omega (arith, below-suc n t, below_rises n d t within)
+]
 
 -- The blocks of f m, .., f 1 are as long as the counts of the rests.
 length-run : (f : ℕ → ℤ) → HasSizes f → (n k m d : ℕ) → m + d ≡ k
@@ -78,15 +78,16 @@ run-get : (f : ℕ → ℤ) → HasSizes f → (n k m d c t r p : ℕ) (rest : L
     → slice_get (flat_map (block n k) (down_from f m)) p ≡ Some (f c ∷ rest)
 run-get f h n k zero d c t r p rest e1 e2 h1 h2 e3 g = absurd (omega arith)
 run-get f h n k (suc m) d c t r p rest e1 e2 h1 h2 e3 g = elim (eq-or-lt_of_le h2) [
-    inl same ↦
-        let s : d ≡ t = omega arith in
-        let q : p ≡ r = let e3' = rw s at e3 in omega arith in
-        rw (q, ← same) (get_front (block n k (f c)) _ r (f c ∷ rest) (block-get f h n k c t r rest e2 g))
+  | inl same ↦
+      let s : d ≡ t = omega arith in
+      let q : p ≡ r = let e3' = rw s at e3 in omega arith in
+      rw (q, ← same) (get_front (block n k (f c)) _ r (f c ∷ rest) (block-get f h n k c t r rest e2 g))
   | inr below ↦
-        let up : count_below n (suc d) ≤ count_below n t = below_rises n (suc d) t (omega arith) in
-        let q : p ≡ length (block n k (f (suc m))) + (p - count_of n d) = omega (arith, below-suc n d, length-block f h n k (suc m) d e1) in
-        rw q (get_behind (block n k (f (suc m))) _ (p - count_of n d)
-            ∙ run-get f h n k m (suc d) c t r (p - count_of n d) rest (omega arith) e2 h1 (omega arith) (omega (arith, below-suc n d)) g) ]
+      let up : count_below n (suc d) ≤ count_below n t = below_rises n (suc d) t (omega arith) in
+      let q : p ≡ length (block n k (f (suc m))) + (p - count_of n d) = omega (arith, below-suc n d, length-block f h n k (suc m) d e1) in
+      rw q (get_behind (block n k (f (suc m))) _ (p - count_of n d)
+      ∙ run-get f h n k m (suc d) c t r (p - count_of n d) rest (omega arith) e2 h1 (omega arith) (omega (arith, below-suc n d)) g)
+]
 
 -- A place in the blocks of f m, .., f 1: it is the r-th of the block of f c.
 pub record Spot (n k m d p : ℕ) : Type 0 where
@@ -102,10 +103,11 @@ pub record Spot (n k m d p : ℕ) : Type 0 where
 spot : (f : ℕ → ℤ) → HasSizes f → (n k m d p : ℕ) → m + d ≡ k → p + count_below n d < count_below n k → Spot n k m d p
 spot f h n k zero d p e b = let s : d ≡ k = omega arith in let b' = rw s at b in absurd (omega arith)
 spot f h n k (suc m) d p e b = elim (cases_lt p (count_of n d)) [
-    inl first ↦ record { c = suc m; t = d; r = p; whole = e; above = omega arith; within = omega arith; place = omega arith; inside = first }
+  | inl first ↦ record { c = suc m; t = d; r = p; whole = e; above = omega arith; within = omega arith; place = omega arith; inside = first }
   | inr later ↦
-        let s : Spot n k m (suc d) (p - count_of n d) = spot f h n k m (suc d) (p - count_of n d) (omega arith) (omega (arith, below-suc n d)) in
-        record { c = s.c; t = s.t; r = s.r; whole = s.whole; above = s.above; within = omega (arith, s.within); place = omega (arith, s.place, below-suc n d); inside = s.inside } ]
+      let s : Spot n k m (suc d) (p - count_of n d) = spot f h n k m (suc d) (p - count_of n d) (omega arith) (omega (arith, below-suc n d)) in
+      record { c = s.c; t = s.t; r = s.r; whole = s.whole; above = s.above; within = omega (arith, s.within); place = omega (arith, s.place, below-suc n d); inside = s.inside }
+]
 
 -- The three parts of the list: the first number is positive, zero, negative.
 vectors-parts : (n k : ℕ) → vectors (suc n) k ≡ flat_map (block n k) (down_from pos k) ++ (block n k (pos 0) ++ flat_map (block n k) (down_from minus k))
@@ -130,10 +132,10 @@ front_place n k zero t r rest e g =
     let s : t ≡ k = omega arith in
     let q : count_below n t + r ≡ length (flat_map (block n k) (down_from pos k)) + r = rw s (omega (arith, length-side pos pos_sizes n k)) in
     rw (vectors-parts n k, q) (get_behind (flat_map (block n k) (down_from pos k)) _ r
-        ∙ get_front (block n k (pos 0)) _ r (pos 0 ∷ rest) (block-get pos pos_sizes n k 0 t r rest e g))
+    ∙ get_front (block n k (pos 0)) _ r (pos 0 ∷ rest) (block-get pos pos_sizes n k 0 t r rest e g))
 front_place n k (suc c) t r rest e g = rw (vectors-parts n k)
     (get_front (flat_map (block n k) (down_from pos k)) _ (count_below n t + r) (pos (suc c) ∷ rest)
-        (run-get pos pos_sizes n k k 0 (suc c) t r (count_below n t + r) rest (omega arith) e (omega arith) (omega arith) (omega arith) g))
+    (run-get pos pos_sizes n k k 0 (suc c) t r (count_below n t + r) rest (omega arith) e (omega arith) (omega arith) (omega arith) g))
 
 -- Those whose first number is -c, c > 0, stand behind all of those.
 pub back_place : (n k c t r : ℕ) (rest : List ℤ) → c + t ≡ k → 0 < c → slice_get (vectors n t) r ≡ Some rest
@@ -141,10 +143,10 @@ pub back_place : (n k c t r : ℕ) (rest : List ℤ) → c + t ≡ k → 0 < c �
 unfolding count_below
 back_place n k c t r rest e h g =
     let q : count_below n (suc k) + (count_below n t + r) ≡ length (flat_map (block n k) (down_from pos k)) + (length (block n k (pos 0)) + (count_below n t + r))
-        = omega (arith, length-side pos pos_sizes n k, length-block pos pos_sizes n k 0 k (omega arith), below-suc n k) in
+    = omega (arith, length-side pos pos_sizes n k, length-block pos pos_sizes n k 0 k (omega arith), below-suc n k) in
     rw (vectors-parts n k, q) (get_behind (flat_map (block n k) (down_from pos k)) _ _
-        ∙ (get_behind (block n k (pos 0)) _ _
-        ∙ run-get minus minus_sizes n k k 0 c t r (count_below n t + r) rest (omega arith) e h (omega arith) (omega arith) g))
+    ∙ (get_behind (block n k (pos 0)) _ _
+    ∙ run-get minus minus_sizes n k k 0 c t r (count_below n t + r) rest (omega arith) e h (omega arith) (omega arith) g))
 
 -- The place of a vector, from its last number on.
 unfoldable pub place : List ℤ → ℕ
@@ -186,14 +188,16 @@ below-zero n = refl
 
 found : (n k i : ℕ) → i < count_of (suc n) k → Found n k i
 found n k i h = elim (cases_lt i (count_below n k)) [
-    inl front ↦
-        let s : Spot n k k 0 i = spot pos pos_sizes n k k 0 i (omega arith) (omega (arith, below-zero n)) in
-        Front s.c s.t s.r s.whole (omega (arith, s.place, below-zero n)) s.inside
+  | inl front ↦
+      let s : Spot n k k 0 i = spot pos pos_sizes n k k 0 i (omega arith) (omega (arith, below-zero n)) in
+      Front s.c s.t s.r s.whole (omega (arith, s.place, below-zero n)) s.inside
   | inr behind ↦ elim (cases_lt i (count_below n (suc k))) [
-        inl middle ↦ Front 0 k (i - count_below n k) (omega arith) (omega arith) (omega (arith, below-suc n k))
-      | inr back ↦
-            let s : Spot n k k 0 (i - count_below n (suc k)) = spot minus minus_sizes n k k 0 (i - count_below n (suc k)) (omega arith) (omega (arith, below-zero n, below-suc n k, count-suc n k)) in
-            Back s.c s.t s.r s.whole s.above (omega (arith, s.place, below-zero n)) s.inside ] ]
+    | inl middle ↦ Front 0 k (i - count_below n k) (omega arith) (omega arith) (omega (arith, below-suc n k))
+    | inr back ↦
+        let s : Spot n k k 0 (i - count_below n (suc k)) = spot minus minus_sizes n k k 0 (i - count_below n (suc k)) (omega arith) (omega (arith, below-zero n, below-suc n k, count-suc n k)) in
+        Back s.c s.t s.r s.whole s.above (omega (arith, s.place, below-zero n)) s.inside
+  ]
+]
 
 get_within : (n k i : ℕ) → i < count_of n k → (y : List ℤ) × (slice_get (vectors n k) i ≡ Some y)
 unfolding count_of
@@ -238,14 +242,15 @@ place-only zero zero zero y g = let e : [] ≡ y = cc in subst (Stands 0 0 0) e 
 place-only zero zero (suc i) y g = cc
 place-only zero (suc k) i y g = cc
 place-only (suc n) k i y g = elim (found n k i (within_count (suc n) k i y g)) [
-    Front c t r e q b ↦
-        let w = get_within n t r b in
-        same_vector (suc n) k i (count_below n t + r) (pos c ∷ w.0) y q (front_place n k c t r w.0 e w.1) g
-            (front_stands n k i c t r w.0 e q (place-only n t r w.0 w.1))
+  | Front c t r e q b ↦
+      let w = get_within n t r b in
+      same_vector (suc n) k i (count_below n t + r) (pos c ∷ w.0) y q (front_place n k c t r w.0 e w.1) g
+      (front_stands n k i c t r w.0 e q (place-only n t r w.0 w.1))
   | Back c t r e h q b ↦
-        let w = get_within n t r b in
-        same_vector (suc n) k i (count_below n (suc k) + (count_below n t + r)) (minus c ∷ w.0) y q (back_place n k c t r w.0 e h w.1) g
-            (back_stands n k i c t r w.0 e h q (place-only n t r w.0 w.1)) ]
+      let w = get_within n t r b in
+      same_vector (suc n) k i (count_below n (suc k) + (count_below n t + r)) (minus c ∷ w.0) y q (back_place n k c t r w.0 e h w.1) g
+      (back_stands n k i c t r w.0 e h q (place-only n t r w.0 w.1))
+]
 
 -- What the list contains, and what is contained in it.
 pub there_vector : (n k : ℕ) (y : List ℤ) → Contains (vectors n k) y → (length y ≡ n) × (pulse_sum y ≡ k)

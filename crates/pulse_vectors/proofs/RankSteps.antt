@@ -1,10 +1,10 @@
 -- How far the loops of rank and unrank have come.
-use Rattle.std.proofs.Common.{◌≡◌, ◌^◌, ℕ, zero, suc, ◌+◌, ◌-◌, ◌<◌, ◌≤◌, List, [], ◌∷◌, length, drop, take, set, ◌++◌, get_or, refl, sym, ◌∙◌, ap, arith, add-one, length-drop, subst, append-nil}
+use Rattle.std.proofs.Common.{◌≡◌, ℕ, zero, suc, ◌+◌, ◌-◌, ◌<◌, ◌≤◌, List, [], ◌∷◌, length, drop, take, set, ◌++◌, get_or, refl, sym, ◌∙◌, ap, arith, add-one, length-drop, subst, append-nil}
 use Rattle.std.specs.Prelude.{ℤ, pos, unsigned_abs, slice_get, Some}
-use Rattle.std.proofs.Math.Seq.{drop-cons, drop-length, take-suc-set, append_snoc, take-length}
+use Rattle.std.proofs.Math.Seq.{drop-cons, drop-length, take-suc-set, append_snoc}
 use Rattle.std.proofs.lemmas.List.{take_all}
 use Rattle.std.proofs.lemmas.List.Sums.{sum_by-take-drop}
-use Rattle.pulse_vectors.specs.Rows.{count_below, stand_before, RowShape, Leads}
+use Rattle.pulse_vectors.specs.Rows.{count_below, stand_before, Leads}
 use Rattle.pulse_vectors.specs.Vectors.{count_of, pulse_sum, vectors, minus}
 use Rattle.pulse_vectors.proofs.Places.{place, place-get, place-only, pulse_sum-cons, within_count, front_place, back_place, minus_size, below-zero}
 use Rattle.pulse_vectors.proofs.RowSteps.{count_rises}
@@ -59,7 +59,8 @@ ranked-next y left i behind at size ahead e r0 e1 e2 =
     record {
       within = omega (arith, r.within);
       behind_is = omega (arith, r.behind_is, next-sum y i (omega (arith, r.within)));
-      at_is = omega (arith, r.at_is, next-place y i (omega (arith, r.within))) }
+      at_is = omega (arith, r.at_is, next-place y i (omega (arith, r.within)));
+    }
 
 pub ranked_by-next : (y : List ℤ) (left i behind at size ahead numbers pulses more same : ℕ) → left ≡ i + 1
     → RankedBy y left behind at numbers pulses → size ≡ unsigned_abs (get_or y i (pos 0)) → ahead ≡ stand_before numbers behind (get_or y i (pos 0))
@@ -70,7 +71,8 @@ ranked_by-next y left i behind at size ahead numbers pulses more same e r e1 e2 
     record {
       ranked = ranked-next y left i behind at size ahead e r.ranked e1 e2';
       numbers_is = omega (arith, r.numbers_is);
-      pulses_is = omega (arith, r.pulses_is) }
+      pulses_is = omega (arith, r.pulses_is);
+    }
 
 -- The place of the numbers behind is below the count of whole vectors.
 pub place-below : (y : List ℤ) → place y < count_of (length y) (pulse_sum y)
@@ -129,7 +131,8 @@ unranked-next n k index y i left at m x t r e1 e2 u l =
       inside = rw e3 l.within;
       joined = rw e3 (λ rest g.
           let longer = rw e2 at u.joined in
-          longer (x ∷ rest) (l.joined rest g) ∙ ap Some (sym (written y i x rest (omega arith)))) }
+          longer (x ∷ rest) (l.joined rest g) ∙ ap Some (sym (written y i x rest (omega arith))));
+    }
 
 -- Without numbers one vector is left, the empty one.
 no-numbers : (k at : ℕ) → at < count_of 0 k → slice_get (vectors 0 k) at ≡ Some []
@@ -149,16 +152,18 @@ unranked-end n k index y i left at e h u =
 
 pub front-leads : (n k index t r : ℕ) → t ≤ k → index ≡ count_below n t + r → r < count_of n t → Leads n k index (pos (k - t)) t r
 front-leads n k index t r h e b = record {
-    pulses = omega arith;
-    within = b;
-    joined = λ rest g. rw e (front_place n k (k - t) t r rest (omega arith) g) }
+  pulses = omega arith;
+  within = b;
+  joined = λ rest g. rw e (front_place n k (k - t) t r rest (omega arith) g);
+}
 
 pub back-leads : (n k index upper t r : ℕ) → t < k → upper ≡ count_below n (suc k) → index ≡ upper + (count_below n t + r) → r < count_of n t
     → Leads n k index (minus (k - t)) t r
 back-leads n k index upper t r h u e b = record {
-    pulses = omega (arith, minus_size (k - t));
-    within = b;
-    joined = λ rest g. rw (e, u) (back_place n k (k - t) t r rest (omega arith) (omega arith) g) }
+  pulses = omega (arith, minus_size (k - t));
+  within = b;
+  joined = λ rest g. rw (e, u) (back_place n k (k - t) t r rest (omega arith) (omega arith) g);
+}
 
 pub ranked-next-at : (y : List ℤ) (left i behind at size ahead numbers : ℕ) → left ≡ i + 1 → numbers ≡ length y - left → Ranked y left behind at
     → size ≡ unsigned_abs (get_or y i (pos 0)) → ahead ≡ stand_before numbers behind (get_or y i (pos 0)) → Ranked y i (behind + size) (at + ahead)

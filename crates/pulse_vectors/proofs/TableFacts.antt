@@ -1,8 +1,7 @@
 -- The lengths of the table's rows: computed once, by the recurrence over the sums.
-use Rattle.std.proofs.Common.{◌≡◌, ◌^◌, ℕ, zero, suc, ◌+◌, ◌-◌, ◌*◌, ◌<◌, ◌≤◌, ◌⊎◌, inl, inr, List, [], ◌∷◌, length, take, get_or, replicate, refl, sym, ◌∙◌, ap, subst, arith, add-one}
-use Rattle.std.specs.Prelude.{Bool, true, false, ◌&&◌, ◌||◌, nat_lt, nat_le, nat_eq, slice_index}
+use Rattle.std.proofs.Common.{◌≡◌, ◌^◌, ℕ, zero, suc, ◌+◌, ◌-◌, ◌<◌, ◌≤◌, ◌⊎◌, inl, inr, List, [], ◌∷◌, length, take, get_or, replicate, refl, sym, ◌∙◌, ap, arith}
+use Rattle.std.specs.Prelude.{Bool, true, false, ◌&&◌, ◌||◌, nat_lt, nat_le, nat_eq}
 use Rattle.std.proofs.lemmas.Bool.{leb-true, ltb-true, eqb-true, or_cases}
-use Rattle.std.proofs.lemmas.Bool.Decides.{nat_tests}
 use Rattle.std.proofs.lemmas.List.{get_or-take, get_or-replicate, length-take, length-replicate}
 use Rattle.pulse_vectors.specs.declared.table.TheConstants.{STARTS}
 use Rattle.pulse_vectors.specs.Rows.{count_below}
@@ -21,7 +20,7 @@ unfoldable pub row_fits : ℕ → ℕ → ℕ → List ℕ → Bool
 row_fits past start end row =
     let w = end - start in
     nat_le 2 w && (nat_le w past && (nat_le end 1963 && (nat_lt (get_or row (w - 1) 0 + get_or row (w - 2) 0) (2 ^ 32)
-        && (nat_lt (w - 1) (length row) && (nat_eq w 129 || (nat_lt w (length row) && nat_le (2 ^ 32) (get_or row w 0 + get_or row (w - 1) 0)))))))
+    && (nat_lt (w - 1) (length row) && (nat_eq w 129 || (nat_lt w (length row) && nat_le (2 ^ 32) (get_or row w 0 + get_or row (w - 1) 0)))))))
 
 unfoldable pub rows_fit : ℕ → ℕ → List ℕ → List ℕ → Bool
 rows_fit past start [] row = true
@@ -77,16 +76,18 @@ get-sums_after m j last before (x ∷ xs) e1 e2 f (suc i) h =
     let x-is = rw here at (f 0 (omega arith)) in
     let next : j + suc i ≡ suc j + i = omega arith in
     rw next (get-sums_after m (suc j) (last + before + x) x xs (omega (arith, x-is, sum-step m j)) x-is
-        (λ k b. let e : suc j + k ≡ j + suc k = omega arith in rw e (f (suc k) (omega arith))) i (omega arith))
+    (λ k b. let e : suc j + k ≡ j + suc k = omega arith in rw e (f (suc k) (omega arith))) i (omega arith))
 
 sum_row-next : (m w : ℕ) (row : List ℕ) → IsSumRow m row → IsSumRow (suc m) (take w (sums_after 0 0 row))
-sum_row-next m w row r = record { each = λ t h.
-    let short : t < w = omega (arith, length-take w (sums_after 0 0 row)) in
-    let long : t < length row = omega (arith, length-take w (sums_after 0 0 row), length-sums_after 0 0 row) in
-    let from : 0 + t ≡ t = omega arith in
-    let all = get-sums_after m 0 0 0 row (sym (below-zero (suc m))) (sym (below-zero m))
-        (λ i b. let e : 0 + i ≡ i = omega arith in rw e (r.each i b)) t long in
-    get_or-take w (sums_after 0 0 row) t 0 short ∙ rw from at all }
+sum_row-next m w row r = record {
+  each = λ t h.
+      let short : t < w = omega (arith, length-take w (sums_after 0 0 row)) in
+      let long : t < length row = omega (arith, length-take w (sums_after 0 0 row), length-sums_after 0 0 row) in
+      let from : 0 + t ≡ t = omega arith in
+      let all = get-sums_after m 0 0 0 row (sym (below-zero (suc m))) (sym (below-zero m))
+      (λ i b. let e : 0 + i ≡ i = omega arith in rw e (r.each i b)) t long in
+      get_or-take w (sums_after 0 0 row) t 0 short ∙ rw from at all;
+}
 
 -- What the test of a row says of the counts of vectors with one number more.
 pub record RowFacts (m past start end : ℕ) : Type 0 where
@@ -138,12 +139,14 @@ row-facts m past start end row r e =
       last = last;
       fits = rw e1 (sums_fit m (end - start - 2) row r long' sum');
       enough = elim (or_cases _ _ f.1) [
-          inl full ↦ inl (let w129 : end - start ≡ 129 = eqb-true _ _ full in omega arith)
+        | inl full ↦ inl (let w129 : end - start ≡ 129 = eqb-true _ _ full in omega arith)
         | inr more ↦
             let g = both _ _ more in
             let l : end - start < length row = ltb-true _ _ g.0 in
             let h : 2 ^ 32 ≤ get_or row (end - start) 0 + get_or row (end - start - 1) 0 = leb-true _ _ g.1 in
-            inr (row-enough m (end - start) (end - start - 1) row (omega arith) r l h) ] }
+            inr (row-enough m (end - start) (end - start - 1) row (omega arith) r l h)
+      ];
+    }
 
 -- Where row j begins and ends, and the length of the row before it, in a list of ends behind a start.
 pub past_at : ℕ → List ℕ → ℕ → ℕ
@@ -160,11 +163,11 @@ rows-sound m past start (end ∷ list) row r e zero h =
 rows-sound m past start (end ∷ list) row r e (suc zero) h =
     let next : m + 1 ≡ suc m + 0 = omega arith in
     rw next (rows-sound (suc m) (end - start) end list (take (suc (end - start)) (sums_after 0 0 row))
-        (sum_row-next m (suc (end - start)) row r) (both _ _ e).1 zero (omega arith))
+    (sum_row-next m (suc (end - start)) row r) (both _ _ e).1 zero (omega arith))
 rows-sound m past start (end ∷ list) row r e (suc (suc j)) h =
     let next : m + suc (suc j) ≡ suc m + suc j = omega arith in
     rw next (rows-sound (suc m) (end - start) end list (take (suc (end - start)) (sums_after 0 0 row))
-        (sum_row-next m (suc (end - start)) row r) (both _ _ e).1 (suc j) (omega arith))
+    (sum_row-next m (suc (end - start)) row r) (both _ _ e).1 (suc j) (omega arith))
 
 ends-long : length ends ≡ 176
 unfolding ends

@@ -1,8 +1,7 @@
 -- What has a place in the table, and how its rows are made.
-use Rattle.std.proofs.Common.{◌≡◌, ◌≢◌, ◌^◌, ℕ, zero, suc, ◌+◌, ◌-◌, ◌*◌, ◌<◌, ◌≤◌, ◌⊎◌, inl, inr, List, length, get_or, set, replicate, refl, sym, ◌∙◌, ap, subst, arith, add-one}
+use Rattle.std.proofs.Common.{◌≡◌, ◌≢◌, ◌^◌, ℕ, zero, suc, ◌+◌, ◌-◌, ◌<◌, ◌≤◌, ◌⊎◌, inl, inr, List, length, get_or, set, replicate, refl, sym, ◌∙◌, subst, arith, add-one}
 use Rattle.std.proofs.lemmas.Bool.{cases_lt, cases_eq}
 use Rattle.std.proofs.lemmas.List.{get_or-set_same, get_or-set_other, get_or-replicate}
-use Rattle.pulse_vectors.specs.declared.table.TheConstants.{STARTS}
 use Rattle.pulse_vectors.specs.Rows.{count_below}
 use Rattle.pulse_vectors.specs.Tables.{HasPlace, IsSumsBelow, start_of}
 use Rattle.pulse_vectors.specs.Vectors.{count_of}
@@ -10,15 +9,16 @@ use Rattle.pulse_vectors.proofs.Places.{count-suc, below-suc, below-zero, below_
 use Rattle.pulse_vectors.proofs.RowSteps.{count_rises}
 use Rattle.pulse_vectors.proofs.Counts.{count_grows}
 use Rattle.pulse_vectors.proofs.RankSteps.{count-rises}
-use Rattle.pulse_vectors.proofs.TableFacts.{RowFacts, past_at, table-facts, past-next, start-first, sum-step, first_sum}
+use Rattle.pulse_vectors.proofs.TableFacts.{table-facts, past-next, sum-step, first_sum}
 
 pub starts_rise : (m n : ℕ) → m ≤ n → n ≤ 176 → start_of m ≤ start_of n
 starts_rise m zero h l = let e : m ≡ 0 = omega arith in rw e (omega arith)
 starts_rise m (suc n) h l = elim (cases_lt n m) [
-    inl last ↦ let e : m ≡ suc n = omega arith in rw e (omega arith)
+  | inl last ↦ let e : m ≡ suc n = omega arith in rw e (omega arith)
   | inr within ↦
-        let f = (table-facts n (omega arith)).two in
-        omega (arith, starts_rise m n within (omega arith)) ]
+      let f = (table-facts n (omega arith)).two in
+      omega (arith, starts_rise m n within (omega arith))
+]
 
 pub place-less : (m t s : ℕ) → HasPlace m t → s ≤ t → HasPlace m s
 place-less m t s p h = record { numbers = p.numbers; within = omega (arith, p.within) }
@@ -44,17 +44,21 @@ pub has-place : (m t : ℕ) → m < 176 → t ≤ 128 → count_of (suc m) t < 2
 has-place m t h l f =
     let facts = table-facts m h in
     elim facts.enough [
-        inl full ↦ record { numbers = h; within = omega arith }
+      | inl full ↦ record { numbers = h; within = omega arith }
       | inr more ↦ elim (cases_lt t (start_of (suc m) - start_of m)) [
-            inl inside ↦ record { numbers = h; within = omega arith }
-          | inr past ↦ absurd (omega (arith, count_rises m (start_of (suc m) - start_of m) t past)) ] ]
+        | inl inside ↦ record { numbers = h; within = omega arith }
+        | inr past ↦ absurd (omega (arith, count_rises m (start_of (suc m) - start_of m) t past))
+      ]
+    ]
 
 -- The first row is all ones.
 pub sums-start : (len : ℕ) → 1963 ≤ len → IsSumsBelow 1 (replicate len 1)
-sums-start len l = record { each = λ m t h p.
-    let e : m ≡ 0 = omega arith in
-    let one : count_below m (suc t) ≡ 1 = rw e (first_sum t) in
-    get_or-replicate len (start_of m + t) 1 0 (omega (arith, place-inside m t p)) ∙ sym one }
+sums-start len l = record {
+  each = λ m t h p.
+      let e : m ≡ 0 = omega arith in
+      let one : count_below m (suc t) ≡ 1 = rw e (first_sum t) in
+      get_or-replicate len (start_of m + t) 1 0 (omega (arith, place-inside m t p)) ∙ sym one;
+}
 
 -- A loop has made the sums of n + 1 numbers up to S(n + 1, t - 1).
 pub record Filling (n t last before : ℕ) (sums : List ℕ) : Type 0 where
@@ -87,18 +91,21 @@ pub filling-next : (n t last before here : ℕ) (sums : List ℕ) → length sum
     → Filling n t last before sums → HasPlace (suc n) t
     → Filling n (t + 1) (last + before + here) here (set sums (start_of (suc n) + t) (last + before + here))
 filling-next n t last before here sums l q f p = record {
-    rows = record { each = λ m j h b. kept m j h b };
-    done = λ j h. done_at j h (cases_eq j t);
-    last_is = rw (q, add-one) (filling-now n t last before sums f p);
-    before_is = rw add-one (q ∙ filling-here n t last before sums f p) }
+  rows = record { each = λ m j h b. kept m j h b };
+  done = λ j h. done_at j h (cases_eq j t);
+  last_is = rw (q, add-one) (filling-now n t last before sums f p);
+  before_is = rw add-one (q ∙ filling-here n t last before sums f p);
+}
   where
     inside : start_of (suc n) + t < length sums
     inside = omega (arith, place-inside (suc n) t p)
+
     kept : (m j : ℕ) → m < suc n → HasPlace m j → get_or (set sums (start_of (suc n) + t) (last + before + here)) (start_of m + j) 0 ≡ count_below m (suc j)
     kept m j h b =
         let low : start_of (suc m) ≤ start_of (suc n) = starts_rise (suc m) (suc n) (omega arith) (omega (arith, p.numbers)) in
         let ne : start_of m + j ≢ start_of (suc n) + t = omega (arith, b.within) in
         get_or-set_other sums (start_of (suc n) + t) (start_of m + j) (last + before + here) 0 ne ∙ f.rows.each m j h b
+
     done_at : (j : ℕ) → j < t + 1 → (j ≡ t) ⊎ (j ≡ t → ⊥) → get_or (set sums (start_of (suc n) + t) (last + before + here)) (start_of (suc n) + j) 0 ≡ count_below (suc n) (suc j)
     done_at j h (inl same) = rw (same, q) (get_or-set_same sums (start_of (suc n) + t) (last + before + get_or sums (start_of n + t) 0) 0 inside ∙ filling-now n t last before sums f p)
     done_at j h (inr other) =
@@ -107,11 +114,14 @@ filling-next n t last before here sums l q f p = record {
 
 pub filling-end : (n t last before : ℕ) (sums : List ℕ) → Filling n t last before sums → start_of (suc (suc n)) ≤ start_of (suc n) + t
     → IsSumsBelow (suc (suc n)) sums
-filling-end n t last before sums f h = record { each = λ m j b p. elim (cases_eq m (suc n)) [
-    inl here ↦
+filling-end n t last before sums f h = record {
+  each = λ m j b p. elim (cases_eq m (suc n)) [
+    | inl here ↦
         let within : start_of (suc n) + j < start_of (suc (suc n)) = let P : ℕ → Type 0 = λ k. start_of k + j < start_of (suc k) in subst P here p.within in
         rw here (f.done j (omega arith))
-  | inr other ↦ f.rows.each m j (omega arith) p ] }
+    | inr other ↦ f.rows.each m j (omega arith) p
+  ];
+}
 
 -- What the loop may ask for, in the words of the code.
 pub filling-place : (m n t start end : ℕ) → m ≡ suc n → m < 176 → start ≡ start_of m → end ≡ start_of (m + 1) → t < end - start → HasPlace (suc n) t
@@ -168,4 +178,4 @@ sum-fits m t here place a b e p e1 e2 h =
 pub place-of : (n k m t : ℕ) → m < n → n ≤ 176 → k ≤ 128 → t ≤ k → count_of n k < 2 ^ 32 → HasPlace m t
 place-of n k m t h l b c f =
     has-place m t (omega arith) (omega arith)
-        (omega (arith, count_grows (suc m) n t (omega arith), count-rises n t k (omega arith) c))
+    (omega (arith, count_grows (suc m) n t (omega arith), count-rises n t k (omega arith) c))

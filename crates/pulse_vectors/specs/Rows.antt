@@ -1,5 +1,5 @@
 -- A row of the counts: V(n, 0), V(n, 1), .., for one n, and its sums (RFC 6716, 4.3.4.2).
-use Rattle.std.specs.Prelude.{◌≡◌, ℕ, zero, suc, ◌+◌, ◌<◌, ℤ, pos, negsuc, ◌∷◌, unsigned_abs, slice_get, Option, Some, List, length, slice_index}
+use Rattle.std.specs.Prelude.{◌≡◌, ℕ, zero, suc, ◌+◌, ◌<◌, ℤ, pos, negsuc, ◌∷◌, unsigned_abs, slice_get, Some, List, length, slice_index}
 use Rattle.pulse_vectors.specs.Vectors.{count_of, vectors}
 
 -- V(n, 0) + .. + V(n, t - 1): how many vectors of n numbers hold fewer than t pulses

@@ -1,6 +1,6 @@
 -- The vectors that N numbers and K pulses can form, in the order in which they are numbered
 -- (RFC 6716, 4.3.4.2): N whole numbers whose sizes add up to K.
-use Rattle.std.specs.Prelude.{ℕ, zero, suc, ◌+◌, ◌-◌, ℤ, pos, neg_ℤ, unsigned_abs, List, [], ◌∷◌, ◌++◌, map, length}
+use Rattle.std.specs.Prelude.{ℕ, zero, suc, ◌-◌, ℤ, pos, neg_ℤ, unsigned_abs, List, [], ◌∷◌, ◌++◌, map, length}
 use Rattle.std.specs.List.{flat_map, sum_by}
 
 -- how many pulses a vector holds: the sum of the sizes of its numbers

@@ -9,7 +9,9 @@ use crate::{PulseTable, Row, cost, count, index_for, last_index, pulses_of, rank
 fn digest(from: u64, y: &[i32]) -> u64 {
     let mut sum = from;
     for x in y {
-        sum = sum.wrapping_mul(1_000_003).wrapping_add((*x as i64).cast_unsigned());
+        sum = sum
+            .wrapping_mul(1_000_003)
+            .wrapping_add((*x as i64).cast_unsigned());
     }
     sum
 }
@@ -109,7 +111,11 @@ fn long_vectors(rt: HostRuntime) {
         (4, 1172, 2861942741, 8932133467337027004),
     ] {
         assert!(rt; 1 <= n && n <= 176 && 1 <= k && k <= 4096);
-        assert_eq!(rt; round_trip(&table, n, k, index, 0), Some(want), "{index} of {n}, {k}");
+        assert_eq!(rt;
+            round_trip(&table, n, k, index, 0),
+            Some(want),
+            "{index} of {n}, {k}"
+        );
     }
 }
 
@@ -131,18 +137,43 @@ fn counts(rt: HostRuntime) {
     for _ in 0..4u32 {
         row.up();
     }
-    assert_eq!(rt; [row.at(0), row.at(1), row.at(2), row.at(3)], [1, 8, 32, 88]);
+    assert_eq!(rt;
+        [row.at(0), row.at(1), row.at(2), row.at(3)],
+        [1, 8, 32, 88]
+    );
     row.down();
-    assert_eq!(rt; [row.at(0), row.at(1), row.at(2), row.at(3)], [1, 6, 18, 38]);
+    assert_eq!(rt;
+        [row.at(0), row.at(1), row.at(2), row.at(3)],
+        [1, 6, 18, 38]
+    );
 }
 
 #[test]
 fn costs(rt: HostRuntime) {
-    for (index, want) in [(0, 0), (7, 7), (8, 8), (9, 9), (16, 16), (17, 18), (40, 128)] {
+    for (index, want) in [
+        (0, 0),
+        (7, 7),
+        (8, 8),
+        (9, 9),
+        (16, 16),
+        (17, 18),
+        (40, 128),
+    ] {
         assert!(rt; index <= 40);
         assert_eq!(rt; pulses_of(index), want, "{index}");
     }
-    for (n, want) in [(2, 40), (5, 40), (6, 35), (7, 29), (8, 25), (16, 12), (40, 7), (41, 6), (110, 4), (176, 4)] {
+    for (n, want) in [
+        (2, 40),
+        (5, 40),
+        (6, 35),
+        (7, 29),
+        (8, 25),
+        (16, 12),
+        (40, 7),
+        (41, 6),
+        (110, 4),
+        (176, 4),
+    ] {
         assert!(rt; 2 <= n && n <= 176);
         assert_eq!(rt; last_index(n), want, "{n}");
     }

@@ -1,4 +1,4 @@
-use Rattle.std.proofs.Common.{suc, add-one}
+use Rattle.std.proofs.Common.{add-one}
 use Rattle.pulse_vectors.proofs.Counts.{count-no-pulses, count-three}
 use Rattle.pulse_vectors.proofs.RowSteps.{count-none-suc}
 use Rattle.pulse_vectors.proofs.laws.law_counts.Goals as goal

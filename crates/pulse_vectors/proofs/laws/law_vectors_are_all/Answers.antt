@@ -1,4 +1,3 @@
-use Rattle.std.proofs.Common.{◌≡◌, ◌∙◌, sym}
 use Rattle.pulse_vectors.proofs.Places.{vector_there, there_vector}
 use Rattle.pulse_vectors.proofs.laws.law_vectors_are_all.Goals as goal
 

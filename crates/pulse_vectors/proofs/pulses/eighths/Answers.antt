@@ -1,4 +1,4 @@
-use Rattle.std.proofs.Common.{arith, refl, ◌≡◌, ◌+◌, ◌-◌, ◌*◌, ◌/◌, ◌%◌, ◌^◌, ◌∙◌, sym}
+use Rattle.std.proofs.Common.{arith, refl, ◌≡◌, ◌-◌, ◌*◌, ◌/◌, ◌%◌, ◌^◌}
 use Rattle.pulse_vectors.proofs.Logs.{digits-next, digits-room, digits-end-above, digits-end}
 use Rattle.pulse_vectors.proofs.pulses.eighths.Goals as goal
 
@@ -9,7 +9,9 @@ loop-s-preserved c =
     rw whole (digits-next _ _ _ _ _ _ (omega arith) c.loop-s.invariant refl)
 
 pub returns-then-rest-gt32768-clause-exact : goal.returns-then-rest-gt32768-clause-exact
-returns-then-rest-gt32768-clause-exact c = digits-end-above _ _ _ _ (omega arith) c.loop-s.invariant c.if-rest-gt32768.true
+returns-then-rest-gt32768-clause-exact c =
+    omega (arith, digits-end-above _ _ _ _ (omega arith) c.loop-s.invariant c.if-rest-gt32768.true)
 
 pub returns-else-rest-gt32768-clause-exact : goal.returns-else-rest-gt32768-clause-exact
-returns-else-rest-gt32768-clause-exact c = digits-end _ _ _ _ (omega arith) c.loop-s.invariant c.if-rest-gt32768.false
+returns-else-rest-gt32768-clause-exact c =
+    omega (arith, digits-end _ _ _ _ (omega arith) c.loop-s.invariant c.if-rest-gt32768.false)

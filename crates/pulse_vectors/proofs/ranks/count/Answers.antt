@@ -1,5 +1,4 @@
-use Rattle.std.proofs.Common.{arith, ◌≡◌, ◌+◌, ◌≤◌, ◌<◌, ◌^◌}
-use Rattle.pulse_vectors.specs.Vectors.{count_of}
+use Rattle.std.proofs.Common.{arith, ◌+◌}
 use Rattle.pulse_vectors.proofs.Counts.{count_grows}
 use Rattle.pulse_vectors.proofs.ranks.count.Goals as goal
 

@@ -1,4 +1,4 @@
-use Rattle.std.proofs.Common.{◌≡◌, ◌≤◌}
+use Rattle.std.proofs.Common.{◌≡◌}
 use Rattle.pulse_vectors.proofs.ranks.count.Given as goal
 
 abbrev pub invariant-loop : goal.invariant-loop

@@ -1,5 +1,4 @@
-use Rattle.std.proofs.Common.{arith, ◌≡◌, ◌+◌, ◌≤◌, ◌<◌, add-one}
-use Rattle.pulse_vectors.specs.Rows.{count_below}
+use Rattle.std.proofs.Common.{arith}
 use Rattle.pulse_vectors.proofs.Counts.{below-next, below-end}
 use Rattle.pulse_vectors.proofs.Places.{below-zero}
 use Rattle.pulse_vectors.proofs.ranks.pulses_behind.Goals as goal
@@ -16,6 +15,7 @@ loop-place-smaller c =
     omega arith
 
 pub loop-place-preserved : goal.loop-place-preserved
-loop-place-preserved c =
-    (below-end _ _ _ _ _ c.args.most c.loop-place.invariant.1 c.at.ensures (omega arith) c.requires.below,
-     below-next _ _ _ _ _ c.loop-place.invariant.1 c.at-place.ensures (omega arith))
+loop-place-preserved c = (
+  below-end _ _ _ _ _ c.args.most c.loop-place.invariant.1 c.at.ensures (omega arith) c.requires.below,
+  below-next _ _ _ _ _ c.loop-place.invariant.1 c.at-place.ensures (omega arith),
+)

@@ -1,11 +1,11 @@
-use Rattle.std.proofs.Common.{arith, refl, rules, ◌≡◌, ◌+◌, ◌-◌, ◌≤◌, ◌<◌, ◌^◌, length, get_or}
+use Rattle.std.proofs.Common.{arith, refl, rules, ◌≡◌, ◌+◌, ◌-◌, length, get_or}
 use Rattle.std.specs.Prelude.{pos}
 use mir.Val.{SFits}
 use mir.Syntax.{w32}
 use Rattle.std.proofs.lemmas.Int.{to_z-of_z}
-use Rattle.pulse_vectors.specs.Vectors.{count_of, pulse_sum}
+use Rattle.pulse_vectors.specs.Vectors.{pulse_sum}
 use Rattle.pulse_vectors.proofs.Counts.{count_grows}
-use Rattle.pulse_vectors.proofs.RankSteps.{RankedBy, ranked-start, next-fits, ranked_by-next, ranked-below, ranked-end, ranked-only}
+use Rattle.pulse_vectors.proofs.RankSteps.{ranked-start, next-fits, ranked_by-next, ranked-below, ranked-end, ranked-only}
 use Rattle.pulse_vectors.proofs.ranks.rank.Goals as goal
 
 pub loop-i-init : goal.loop-i-init

@@ -1,6 +1,5 @@
-use Rattle.std.proofs.Common.{◌≡◌, ◌+◌, ◌*◌, arith}
+use Rattle.std.proofs.Common.{◌+◌, arith}
 use Rattle.std.proofs.lemmas.Int.{to_z-of_z}
-use Rattle.pulse_vectors.specs.Rows.{count_below}
 use Rattle.pulse_vectors.proofs.Counts.{raised-by-sum, stand-negative, stand-other}
 use Rattle.pulse_vectors.proofs.Places.{below_rises}
 use Rattle.pulse_vectors.proofs.ranks.step_over.Goals as goal

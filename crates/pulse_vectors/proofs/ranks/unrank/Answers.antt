@@ -1,5 +1,5 @@
-use Rattle.std.proofs.Common.{arith, ◌≡◌, ◌+◌}
-use Rattle.pulse_vectors.proofs.RankSteps.{UnrankedBy, unranked-start, unranked-next, unranked-end, stands-full}
+use Rattle.std.proofs.Common.{arith}
+use Rattle.pulse_vectors.proofs.RankSteps.{unranked-end, stands-full}
 use Rattle.pulse_vectors.proofs.ranks.unrank.Goals as goal
 
 pub returns-clause-stands : goal.returns-clause-stands

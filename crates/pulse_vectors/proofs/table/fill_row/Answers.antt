@@ -1,6 +1,6 @@
-use Rattle.std.proofs.Common.{arith, refl, ◌≡◌, ◌+◌, ◌-◌, ◌≤◌, ◌<◌, suc, subst, ℕ, List}
-use Rattle.pulse_vectors.specs.Tables.{HasPlace, IsSumsBelow}
-use Rattle.pulse_vectors.proofs.TableSteps.{Filling, filling-start, filling-place, filling-next-at, filling-fits-at, filling-read-inside, filling-write-inside, filling-end-at, row_has_places}
+use Rattle.std.proofs.Common.{arith, ◌≡◌, ◌-◌, suc, subst, ℕ}
+use Rattle.pulse_vectors.specs.Tables.{IsSumsBelow}
+use Rattle.pulse_vectors.proofs.TableSteps.{filling-start, filling-place, filling-next-at, filling-fits-at, filling-read-inside, filling-write-inside, filling-end-at, row_has_places}
 use Rattle.pulse_vectors.proofs.table.fill_row.Goals as goal
 
 pub overflow_sub-len : goal.overflow_sub-len

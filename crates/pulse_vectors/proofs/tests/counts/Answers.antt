@@ -1,4 +1,4 @@
-use Rattle.std.proofs.Common.{arith, refl, ◌≡◌, ◌+◌, ◌≤◌, ◌<◌, ◌^◌, ℕ}
+use Rattle.std.proofs.Common.{arith, refl, ◌≡◌, ◌+◌}
 use Rattle.pulse_vectors.specs.Vectors.{count_of, vectors}
 use Rattle.pulse_vectors.proofs.Counts.{count_grows}
 use Rattle.pulse_vectors.proofs.tests.counts.Goals as goal

@@ -1,6 +1,6 @@
 use Rattle.std.proofs.Common.{◌≡◌, ◌+◌, ◌≤◌, length, arith, ap, length-take}
 use Rattle.pulse_vectors.specs.Rows.{RowShape}
-use Rattle.pulse_vectors.proofs.RowSteps.{changing-start, raised-next, raised-fits}
+use Rattle.pulse_vectors.proofs.RowSteps.{changing-start, changing-next, raised-now, raised-fits}
 use Rattle.pulse_vectors.proofs.row.Row.up.Goals as goal
 
 pub loop-count-init : goal.loop-count-init
@@ -23,4 +23,6 @@ overflow_add-last-in-loop-count c =
     omega arith
 
 pub loop-count-preserved : goal.loop-count-preserved
-loop-count-preserved c = raised-next _ _ _ _ _ c.loop-count.invariant (omega arith)
+loop-count-preserved c =
+    changing-next _ _ _ _ _ _ _ c.loop-count.invariant (omega arith)
+    (omega (arith, raised-now _ _ _ _ _ c.loop-count.invariant (omega arith)))

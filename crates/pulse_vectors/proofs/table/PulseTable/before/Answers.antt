@@ -1,7 +1,7 @@
-use Rattle.std.proofs.Common.{arith, ◌≡◌, ◌+◌, suc, add-one}
+use Rattle.std.proofs.Common.{arith, ◌+◌, add-one}
 use Rattle.std.proofs.lemmas.Int.{to_z-of_z}
 use Rattle.pulse_vectors.proofs.Counts.{stand-negative, stand-other}
-use Rattle.pulse_vectors.proofs.Places.{below-suc, below_rises}
+use Rattle.pulse_vectors.proofs.Places.{below-suc}
 use Rattle.pulse_vectors.proofs.TableSteps.{place-inside, sum-fits}
 use Rattle.pulse_vectors.proofs.table.PulseTable.before.Goals as goal
 

@@ -1,6 +1,4 @@
-use Rattle.std.proofs.Common.{arith, ◌≡◌, ◌+◌, ◌-◌, suc, subst, ℕ, ◌<◌, ◌^◌}
-use Rattle.pulse_vectors.specs.Costs.{pulses_at}
-use Rattle.pulse_vectors.specs.Tables.{HasPlace}
+use Rattle.std.proofs.Common.{arith}
 use Rattle.pulse_vectors.proofs.CostSteps.{index-place, cost-none, cost-some}
 use Rattle.pulse_vectors.proofs.table.PulseTable.cost.Goals as goal
 

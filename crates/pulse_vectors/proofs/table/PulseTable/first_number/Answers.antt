@@ -1,9 +1,8 @@
-use Rattle.std.proofs.Common.{arith, ◌≡◌, ◌+◌, ◌-◌, ◌≤◌, ◌<◌, add-one}
+use Rattle.std.proofs.Common.{arith, ◌≡◌, ◌+◌, ◌-◌, ◌≤◌, add-one}
 use Rattle.std.specs.Prelude.{pos, ◌-ℤ◌}
 use mir.Val.{to_z, of_z}
 use mir.Syntax.{w32}
 use Rattle.std.proofs.lemmas.Int.{ints}
-use Rattle.pulse_vectors.specs.Rows.{count_below}
 use Rattle.pulse_vectors.specs.Vectors.{minus}
 use Rattle.pulse_vectors.proofs.Counts.{below-positive, count-by-sum}
 use Rattle.pulse_vectors.proofs.Places.{below-suc}
@@ -37,8 +36,8 @@ returns-then-index-upper c =
     let e : to_z w32 (c.args.pulses - c.pulses_behind-behind.result) ≡ pos (c.args.pulses - c.pulses_behind-behind.result) = omega (arith, ints) in
     let to = rw add-one at c.pulses_behind-behind.ensures.to in
     rw e (front-leads _ _ _ _ _ c.pulses_behind-behind.ensures.most
-        (omega (arith, c.pulses_behind-behind.ensures.from, c.sum_below.ensures))
-        (omega (arith, c.pulses_behind-behind.ensures.from, c.sum_below.ensures, below-suc c.args.numbers c.pulses_behind-behind.result)))
+    (omega (arith, c.pulses_behind-behind.ensures.from, c.sum_below.ensures))
+    (omega (arith, c.pulses_behind-behind.ensures.from, c.sum_below.ensures, below-suc c.args.numbers c.pulses_behind-behind.result)))
 
 pub returns-else-index-upper : goal.returns-else-index-upper
 returns-else-index-upper c =
@@ -48,8 +47,8 @@ returns-else-index-upper c =
     let to = rw add-one at c.pulses_behind-behind-else-index-upper.ensures.to in
     let e : to_z w32 (of_z w32 (pos 0 -ℤ to_z w32 (c.args.pulses - c.pulses_behind-behind-else-index-upper.result))) ≡ minus (c.args.pulses - c.pulses_behind-behind-else-index-upper.result) = omega (arith, ints, c.pulses_behind-behind-else-index-upper.ensures.most) in
     rw e (back-leads _ _ _ c.sum-upper.result _ _ (omega (arith, c.pulses_behind-behind-else-index-upper.ensures.most)) upper
-        (omega (arith, c.pulses_behind-behind-else-index-upper.ensures.from, c.sum_below-else-index-upper.ensures))
-        (omega (arith, c.pulses_behind-behind-else-index-upper.ensures.from, c.sum_below-else-index-upper.ensures, below-suc c.args.numbers c.pulses_behind-behind-else-index-upper.result)))
+    (omega (arith, c.pulses_behind-behind-else-index-upper.ensures.from, c.sum_below-else-index-upper.ensures))
+    (omega (arith, c.pulses_behind-behind-else-index-upper.ensures.from, c.sum_below-else-index-upper.ensures, below-suc c.args.numbers c.pulses_behind-behind-else-index-upper.result)))
 
 pub returns-then-pulses-eq0 : goal.returns-then-pulses-eq0
 returns-then-pulses-eq0 c = none-leads _ _ _ (omega arith) c.requires.below

@@ -13,9 +13,10 @@ pub overflow_add-middle : goal.overflow_add-middle
 overflow_add-middle c = omega (arith, last-most c.args.numbers, c.requires.last, c.loop-low.invariant.within, c.loop-low.invariant.ordered)
 
 pub cost-requires-clause-index : goal.cost-requires-clause-index
-cost-requires-clause-index c =
-    (omega (arith, last-most c.args.numbers, c.requires.last, c.loop-low.invariant.within),
-     omega (arith, c.requires.last, c.loop-low.invariant.within))
+cost-requires-clause-index c = (
+  omega (arith, last-most c.args.numbers, c.requires.last, c.loop-low.invariant.within),
+  omega (arith, c.requires.last, c.loop-low.invariant.within),
+)
 
 pub loop-low-preserved : goal.loop-low-preserved
 loop-low-preserved c =

@@ -8,9 +8,10 @@ pub overflow_add-low : goal.overflow_add-low
 overflow_add-low c = omega (arith, last-most c.args.numbers, c.last_index-last.ensures.exact, c.index_below-low.ensures.within)
 
 pub cost-requires-clause-index : goal.cost-requires-clause-index
-cost-requires-clause-index c =
-    (omega (arith, last-most c.args.numbers, c.last_index-last.ensures.exact, c.index_below-low.ensures.within),
-     omega (arith, c.last_index-last.ensures.exact, c.index_below-low.ensures.within))
+cost-requires-clause-index c = (
+  omega (arith, last-most c.args.numbers, c.last_index-last.ensures.exact, c.index_below-low.ensures.within),
+  omega (arith, c.last_index-last.ensures.exact, c.index_below-low.ensures.within),
+)
 
 pub cost-requires-2-clause-index : goal.cost-requires-2-clause-index
 cost-requires-2-clause-index c =
@@ -31,9 +32,10 @@ returns-else-bits-sum-clause-exact c =
     near-high _ _ _ _ _ _ _ low c.last_index-last.ensures.exact c.min-high.ensures c.cost.ensures.exact c.cost-2.ensures.exact twice
 
 pub returns-then-bits-sum-clause-within : goal.returns-then-bits-sum-clause-within
-returns-then-bits-sum-clause-within c =
-    (omega (arith, last-most c.args.numbers, c.last_index-last.ensures.exact, c.index_below-low.ensures.within),
-     omega (arith, c.last_index-last.ensures.exact, c.index_below-low.ensures.within))
+returns-then-bits-sum-clause-within c = (
+  omega (arith, last-most c.args.numbers, c.last_index-last.ensures.exact, c.index_below-low.ensures.within),
+  omega (arith, c.last_index-last.ensures.exact, c.index_below-low.ensures.within),
+)
 
 pub returns-else-bits-sum-clause-within : goal.returns-else-bits-sum-clause-within
 returns-else-bits-sum-clause-within c =

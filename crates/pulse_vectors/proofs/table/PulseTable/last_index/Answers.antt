@@ -23,4 +23,4 @@ loop-index-smaller c = let some = last-positive (c.start_of.result - c.start_of-
 pub returns-clause-exact : goal.returns-clause-exact
 returns-clause-exact c =
     last-end c.args.numbers _ _ _ (omega arith) (row-most c.args.numbers _ _ (omega arith) (omega arith) c.start_of-2.ensures c.start_of.ensures)
-        c.loop-index.invariant c.pulses_of.ensures.exact (omega arith)
+    c.loop-index.invariant c.pulses_of.ensures.exact (omega arith)

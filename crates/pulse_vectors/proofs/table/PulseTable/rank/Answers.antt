@@ -1,9 +1,9 @@
-use Rattle.std.proofs.Common.{arith, rules, refl, ◌≡◌, ◌+◌, ◌-◌, ◌≤◌, ◌<◌, ◌^◌, length, get_or}
+use Rattle.std.proofs.Common.{arith, rules, refl, ◌-◌, get_or}
 use Rattle.std.specs.Prelude.{pos}
 use mir.Val.{SFits}
 use mir.Syntax.{w32}
 use Rattle.std.proofs.lemmas.Int.{to_z-of_z}
-use Rattle.pulse_vectors.proofs.RankSteps.{Ranked, ranked-start, next-fits, ranked-next-at, ranked-below, ranked-end, ranked-only}
+use Rattle.pulse_vectors.proofs.RankSteps.{ranked-start, next-fits, ranked-next-at, ranked-below, ranked-end, ranked-only}
 use Rattle.pulse_vectors.proofs.TableSteps.{place-of}
 use Rattle.pulse_vectors.proofs.table.PulseTable.rank.Goals as goal
 

@@ -1,8 +1,8 @@
-use Rattle.std.proofs.Common.{arith, rules, ◌≡◌, ◌+◌, ◌-◌}
+use Rattle.std.proofs.Common.{arith, rules}
 use mir.Val.{SFits}
 use mir.Syntax.{w32}
 use Rattle.std.proofs.lemmas.Int.{to_z-of_z}
-use Rattle.pulse_vectors.proofs.RankSteps.{Unranked, unranked-next, unranked-end, stands-full}
+use Rattle.pulse_vectors.proofs.RankSteps.{unranked-next, unranked-end, stands-full}
 use Rattle.pulse_vectors.proofs.TableSteps.{place-of}
 use Rattle.pulse_vectors.proofs.table.PulseTable.unrank.Goals as goal
 
