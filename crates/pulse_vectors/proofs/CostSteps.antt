@@ -84,10 +84,13 @@ costs_rise n (suc q) (suc r) h l b =
     (count-rises n (pulses_at (suc q)) (pulses_at (suc r)) h (pulses_rise (suc q) (suc r) l (omega (arith, last-most n))))
     (index-fits n (suc r) h b)
 
-pub index-place : (n q k : ℕ) → 1 ≤ n → n ≤ 176 → q ≤ last_of n → k ≡ pulses_at q → HasPlace (n - 1) k
-index-place n q k h l b e =
+pub index-count-fits : (n q k : ℕ) → 1 ≤ n → q ≤ last_of n → k ≡ pulses_at q → count_of n k < 2 ^ 32
+index-count-fits n q k h b e = rw e (index-fits n q h b)
+
+pub count-place : (n k : ℕ) → 1 ≤ n → n ≤ 176 → k ≤ 128 → count_of n k < 2 ^ 32 → HasPlace (n - 1) k
+count-place n k h l b f =
     let s : suc (n - 1) ≡ n = omega arith in
-    rw e (has-place (n - 1) (pulses_at q) (omega arith) (pulses-most q (omega (arith, last-most n))) (rw s (index-fits n q h b)))
+    has-place (n - 1) k (omega arith) b (rw s f)
 
 pub cost-none : (n q : ℕ) → q ≡ 0 → 0 ≡ cost_at n q
 unfolding cost_at

@@ -7,12 +7,6 @@ ghost use Rattle.pulse_vectors.specs.Rows.{IsRow, RowShape};
 
 use std::marker::Model;
 
-/// The most numbers that a vector has.
-pub const MOST_NUMBERS: u32 = 176;
-
-/// The most pulses that a vector has.
-pub const MOST_PULSES: u32 = 4096;
-
 /// The counts V(N, 0) to V(N, K) for one N, 0 to 176, and one K, 0 to 4096. It takes no memory.
 #[derive(Drop)]
 pub struct Row {

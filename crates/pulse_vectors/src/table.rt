@@ -52,6 +52,18 @@ impl PulseTable {
         PulseTable { sums }
     }
 
+    /// V(numbers, pulses), at least 1. `numbers` is 1 to 176, `pulses` at most 128, and there are fewer
+    /// than 2^32 such vectors.
+    pub fn count(&self, numbers: u32, pulses: u32) -> u32
+        requires numbers { (1 ≤ numbers) × (numbers ≤ 176) }
+        requires pulses { pulses ≤ 128 }
+        requires fits { count_of numbers pulses < 2 ^ 32 }
+        ensures exact { result ≡ count_of numbers pulses }
+        ensures some { 1 ≤ result }
+    {
+        self.sum(numbers - 1, pulses) + self.sum_below(numbers - 1, pulses)
+    }
+
     /// The place of the vector in the order of all vectors of its length and its number of pulses.
     /// `y` has 1 to 176 numbers and 1 to 128 pulses, and there are fewer than 2^32 such vectors.
     pub fn rank(&self, y: &[i32]) -> u32
@@ -161,16 +173,6 @@ impl PulseTable {
             }
         }
         low
-    }
-
-    /// V(numbers, pulses), at least 1.
-    fn count(&self, numbers: u32, pulses: u32) -> u32
-        requires numbers { 1 ≤ numbers }
-        requires place { HasPlace (numbers - 1) pulses }
-        ensures exact { result ≡ count_of numbers pulses }
-        ensures some { 1 ≤ result }
-    {
-        self.sum(numbers - 1, pulses) + self.sum_below(numbers - 1, pulses)
     }
 
     /// How many vectors stand before those that begin with `x`, where the `numbers` numbers behind

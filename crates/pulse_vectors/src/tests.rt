@@ -43,6 +43,32 @@ fn round_trip(table: &PulseTable, n: usize, k: u32, index: u32, from: u64) -> Op
     Some(digest(from, y))
 }
 
+/// The pair with so many pulses at place `index`, if there is one.
+fn pair_at(pulses: u32, index: u32) -> Option<[i32; 2]>
+    requires { (1 ≤ pulses) × (pulses ≤ 4096) }
+{
+    let total = count(2, pulses)?;
+    if index >= total {
+        return None;
+    }
+    let mut pair = [0; 2];
+    unrank(index, pulses, &mut pair);
+    Some(pair)
+}
+
+#[test]
+fn order_of_pairs(rt: HostRuntime) {
+    for (index, want) in [
+        (0, Some([1, 0])),
+        (1, Some([0, 1])),
+        (2, Some([0, -1])),
+        (3, Some([-1, 0])),
+        (4, None),
+    ] {
+        assert_eq!(rt; pair_at(1, index), want, "{index}");
+    }
+}
+
 /// All vectors of 1 to 5 numbers and 1 to 5 pulses, in order.
 #[test]
 fn all_short_vectors(rt: HostRuntime) {
@@ -64,11 +90,13 @@ fn all_short_vectors(rt: HostRuntime) {
     }
 }
 
-/// Numbers, pulses, a place at either end or between, and the digest of the vector there.
+/// Numbers, pulses, a place at either end or between, and the digest of the vector there. The first
+/// is (0, 0, -1).
 #[test]
 fn long_vectors(rt: HostRuntime) {
     let table = PulseTable::new();
     for (n, k, index, want) in [
+        (3, 1, 3, 18446744073709551615),
         (1, 1, 1, 18446744073709551615),
         (1, 128, 0, 128),
         (1, 128, 1, 18446744073709551488),
