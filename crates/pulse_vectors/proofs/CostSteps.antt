@@ -109,15 +109,6 @@ pub record LastSought (most index : ℕ) : Type 0 where
 pub last-start : (most : ℕ) → LastSought most (min most 40)
 last-start most = record { within = omega arith; above = λ q h l. omega (arith, pulses-least q l) }
 
-pub last-next : (most index k : ℕ) → LastSought most index → k ≡ pulses_at index → most < k → LastSought most (index - 1)
-last-next most index k s e h = record {
-  within = omega (arith, s.within);
-  above = λ q a b. elim (cases_lt index q) [
-    | inl over ↦ s.above q over b
-    | inr here ↦ let same : q ≡ index = omega arith in rw same (omega arith)
-  ];
-}
-
 pub last-positive : (most index k : ℕ) → k ≡ pulses_at index → most < k → 1 ≤ index
 last-positive most zero k e h = let e' = rw pulses-zero at e in absurd (omega arith)
 last-positive most (suc index) k e h = omega arith
@@ -144,13 +135,6 @@ pub record Halving (n : ℕ) (b : ℤ) (last low high : ℕ) : Type 0 where
   pub within : high ≤ last + 1
   pub below : 0 < low → int_lt (pos (cost_at n low)) b ≡ true
   pub above : (q : ℕ) → high ≤ q → q ≤ last → int_lt (pos (cost_at n q)) b ≡ false
-
-pub halving-start : (n last : ℕ) (b : ℤ) → Halving n b last 0 (last + 1)
-halving-start n last b = record { ordered = omega arith; within = omega arith; below = λ z. absurd (omega arith); above = λ q h l. absurd (omega arith) }
-
-pub halving-low : (n last low high middle : ℕ) (b : ℤ) → Halving n b last low high → middle < high → int_lt (pos (cost_at n middle)) b ≡ true
-    → Halving n b last middle high
-halving-low n last low high middle b h l t = record { ordered = l; within = h.within; below = λ z. t; above = h.above }
 
 pub halving-high : (n last low high middle : ℕ) (b : ℤ) → 1 ≤ n → last ≡ last_of n → Halving n b last low high → low < middle → middle ≤ high
     → int_lt (pos (cost_at n middle)) b ≡ false → Halving n b last low middle

@@ -13,9 +13,6 @@ pub record Digits (x s sum rest : ℕ) : Type 0 where
   pub low : rest ≤ 131069
   pub room : sum + 2 ^ s ≤ 16
 
-pub digits-start : (x : ℕ) → x ≤ 65536 → Digits x 4 0 x
-digits-start x h = record { value = omega arith; low = omega arith; room = omega arith }
-
 -- A number below 4 halved, rounded up, where it has reached 2.
 pub halved : ℕ → ℕ
 halved x = (x + x / 65536) / 2 ^ (x / 65536)

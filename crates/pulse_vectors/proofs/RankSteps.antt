@@ -114,11 +114,6 @@ pub record UnrankedBy (n k index : ℕ) (y : List ℤ) (i left at numbers pulses
   pub numbers_is : numbers + i ≡ n
   pub pulses_is : pulses ≡ k
 
-pub unranked-start : (n k index : ℕ) (y : List ℤ) → index < count_of n k → Unranked n k index y 0 k index
-unranked-start n k index y h =
-    let e : n - 0 ≡ n = omega arith in
-    record { few = omega arith; inside = rw e h; joined = rw e (λ rest g. g) }
-
 written : (y : List ℤ) (i : ℕ) (x : ℤ) (rest : List ℤ) → i < length y → take (i + 1) (set y i x) ++ rest ≡ take i y ++ (x ∷ rest)
 written y i x rest h = rw (add-one, take-suc-set y i x h) (append_snoc (take i y) x rest)
 

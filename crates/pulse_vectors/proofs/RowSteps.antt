@@ -1,7 +1,7 @@
 -- How a row follows from the row for one number fewer, and how far a loop over it has come.
-use Rattle.std.proofs.Common.{◌≡◌, ◌≢◌, ◌^◌, ◌⊎◌, ℕ, zero, suc, ◌+◌, ◌<◌, ◌≤◌, inl, inr, List, length, get_or, set, take, refl, sym, ◌∙◌, ap, arith, length-set, length-take, add-one, replicate}
+use Rattle.std.proofs.Common.{◌≡◌, ◌≢◌, ◌^◌, ◌⊎◌, ℕ, zero, suc, ◌+◌, ◌<◌, ◌≤◌, inl, inr, List, length, get_or, set, take, refl, sym, ◌∙◌, ap, arith, length-set, add-one, replicate}
 use Rattle.std.proofs.lemmas.Bool.{cases_lt, cases_eq}
-use Rattle.std.proofs.lemmas.List.{get_or-take, get_or-replicate, length-replicate, get_or-set_same, get_or-set_other}
+use Rattle.std.proofs.lemmas.List.{get_or-replicate, length-replicate, get_or-set_same, get_or-set_other}
 use Rattle.pulse_vectors.specs.Rows.{IsRow}
 use Rattle.pulse_vectors.specs.Vectors.{vectors, count_of}
 use Rattle.pulse_vectors.proofs.Places.{count-suc, below-suc, below-zero}
@@ -40,13 +40,6 @@ count_rises n j (suc k) h = elim (cases_lt k j) [
   | inl last ↦ let e : j ≡ suc k = omega arith in rw e (omega arith)
   | inr within ↦ omega (arith, count-step n (suc k), before-suc (suc n) k, count_rises n j k within)
 ]
-
-pub row-take : (n m : ℕ) (xs : List ℕ) → IsRow n xs → IsRow n (take m xs)
-row-take n m xs row = record {
-  each = λ j h.
-      let k : j < m = omega (arith, length-take m xs) in
-      get_or-take m xs j 0 k ∙ row.each j (omega (arith, length-take m xs));
-}
 
 -- A loop over a row of n numbers has made its first i counts those of m numbers.
 pub record Changing (n m : ℕ) (counts : List ℕ) (i last before : ℕ) : Type 0 where
@@ -106,6 +99,3 @@ row-empty m = record { each = λ j h. at j h }
     at : (j : ℕ) → j < length {A = ℕ} (set (replicate (suc m) 0) 0 1) → get_or {A = ℕ} (set (replicate (suc m) 0) 0 1) j 0 ≡ count_of 0 j
     at zero h = sym count-none
     at (suc j) h = get_or-replicate m j 0 0 (omega (arith, length-replicate {A = ℕ} m 0)) ∙ sym (count-none-suc j)
-
-pub changing-end : (n m : ℕ) (counts : List ℕ) (i last before : ℕ) → Changing n m counts i last before → length counts ≤ i → IsRow m counts
-changing-end n m counts i last before c h = record { each = λ j k. c.done j (omega arith) }

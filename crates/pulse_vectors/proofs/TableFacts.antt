@@ -184,7 +184,3 @@ table-facts m h =
 pub past-next : (m : ℕ) → past_at 129 STARTS (suc m) ≡ start_of (suc m) - start_of m
 unfolding past_at start_of
 past-next m = refl
-
-pub start-first : start_of 0 ≡ 0
-unfolding start_of
-start-first = refl

@@ -20,9 +20,6 @@ starts_rise m (suc n) h l = elim (cases_lt n m) [
       omega (arith, starts_rise m n within (omega arith))
 ]
 
-pub place-less : (m t s : ℕ) → HasPlace m t → s ≤ t → HasPlace m s
-place-less m t s p h = record { numbers = p.numbers; within = omega (arith, p.within) }
-
 -- Every place is in the table.
 pub place-inside : (m t : ℕ) → HasPlace m t → start_of m + t < 1963
 place-inside m t p = omega (arith, p.within, (table-facts m p.numbers).last)

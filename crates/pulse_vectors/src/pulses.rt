@@ -1,7 +1,7 @@
 //! The number of pulses that an index stands for, and the logarithm by which vectors are priced
 //! (RFC 6716, section 4.3.4.1).
 
-ghost use Rattle.std.specs.Prelude.{◌≡◌, ◌≤◌, ◌<◌, ◌^◌, ◌*◌, ◌+◌};
+ghost use Rattle.std.specs.Prelude.{◌≡◌, ◌≤◌};
 ghost use Rattle.pulse_vectors.specs.Costs.{pulses_at, log_digits, log_eighths};
 
 /// The number of pulses that an index from 0 to 40 stands for: 0 to 16 one by one, then eight

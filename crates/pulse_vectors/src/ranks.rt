@@ -1,6 +1,12 @@
-//! The number of vectors, the place of a vector in their order, and back (RFC 6716, section 4.3.4.2).
+//! The number of vectors, the place of a vector in their order, and back (RFC 6716, section 4.3.4.2),
+//! by one row of the counts.
+//!
+//! With m numbers behind the first one and k pulses, the list has V(m, 0) vectors that begin with k,
+//! V(m, 1) that begin with k - 1, and so on down to V(m, k) that begin with 0; then the same from
+//! V(m, 0) to V(m, k - 1) for -k to -1. So V(m + 1, t) = V(m, t) + 2 * (V(m, 0) + .. + V(m, t - 1)),
+//! and half the difference of two neighbouring rows at t is the sum of the first of them before t.
 
-ghost use Rattle.std.specs.Prelude.{◌≡◌, ◌↔◌, ℕ, ◌+◌, ◌-◌, ◌^◌, ◌<◌, ◌≤◌, length, take, unsigned_abs, slice_get};
+ghost use Rattle.std.specs.Prelude.{◌≡◌, ℕ, ◌+◌, ◌-◌, ◌^◌, ◌<◌, ◌≤◌, length, unsigned_abs, slice_get};
 ghost use Rattle.pulse_vectors.specs.Rows.{Leads, count_below, stand_before};
 ghost use Rattle.pulse_vectors.specs.Vectors.{vectors, count_of, pulse_sum};
 
@@ -47,8 +53,10 @@ fn step_over(row: &mut Row, x: i32, behind: u32) -> u32
     let fewer = row.at(behind);
     let all = row.at(here);
     row.up();
+    // V(m, 0) + .. + V(m, behind - 1), for m numbers behind `x`
     let before = (row.at(behind) - fewer) / 2;
     if x < 0 {
+        // and V(m, 0) + .. + V(m, here): all that begin with no negative number
         all + (row.at(here) - all) / 2 + before
     } else {
         before
@@ -118,6 +126,7 @@ fn first_number(row: &mut Row, index: u32, pulses: u32) -> Number
     let whole = row.at(pulses);
     row.down();
     let zero = row.at(pulses);
+    // V(m, 0) + .. + V(m, pulses), for m numbers behind: all that begin with no negative number
     let upper = zero + (whole - zero) / 2;
     if index < upper {
         let (behind, place) = pulses_behind(row, index, pulses);

@@ -1,7 +1,7 @@
 //! One row of the counts, V(N, 0) to V(N, K) for a fixed K, which goes from N numbers to N + 1 and
 //! back in place (RFC 6716, section 4.3.4.2).
 
-ghost use Rattle.std.specs.Prelude.{◌≡◌, ℕ, ◌+◌, ◌-◌, ◌^◌, ◌<◌, ◌≤◌, take};
+ghost use Rattle.std.specs.Prelude.{◌≡◌, ◌+◌, ◌-◌, ◌^◌, ◌<◌, ◌≤◌, take};
 ghost use Rattle.pulse_vectors.specs.Vectors.{count_of};
 ghost use Rattle.pulse_vectors.specs.Rows.{IsRow, RowShape};
 

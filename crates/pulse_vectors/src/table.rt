@@ -5,7 +5,7 @@
 //! number is not negative and has at most t pulses behind it are the first S(m, t) of the order. So
 //! an index leads straight to its first number, and V(m + 1, t) = S(m, t) + S(m, t - 1).
 
-ghost use Rattle.std.specs.Prelude.{◌≡◌, ◌↔◌, ℕ, ◌+◌, ◌-◌, ◌*◌, ◌^◌, ◌<◌, ◌≤◌, List, length, unsigned_abs, slice_index, slice_get};
+ghost use Rattle.std.specs.Prelude.{◌≡◌, ℕ, ◌+◌, ◌-◌, ◌^◌, ◌<◌, ◌≤◌, length, unsigned_abs, slice_get};
 ghost use Rattle.pulse_vectors.specs.Costs.{last_of, cost_at, index_below, index_near};
 ghost use Rattle.pulse_vectors.specs.Rows.{Leads, count_below, stand_before};
 ghost use Rattle.pulse_vectors.specs.Tables.{HasPlace, IsSums, IsSumsBelow, start_of};
