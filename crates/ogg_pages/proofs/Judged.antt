@@ -1,13 +1,12 @@
 -- What each verdict says of the bytes, and that no later byte changes it.
-use Rattle.std.proofs.Common.{◌≡◌, ℕ, zero, suc, ◌+◌, ◌-◌, ◌*◌, ◌<◌, ◌≤◌, ◌^◌, List, [], ◌∷◌, ◌++◌, length, get_or, take, drop, sum, Bool, true, false, not, nat_lt, refl, sym, ◌∙◌, ap, subst, arith, length-take, length-drop, length-append, get_or-drop, ◌⊎◌, inl, inr}
+use Rattle.std.proofs.Common.{◌≡◌, ℕ, ◌+◌, ◌-◌, ◌≤◌, List, ◌++◌, length, get_or, take, drop, sum, Bool, true, false, not, nat_lt, refl, sym, ◌∙◌, ap, arith, length-take, length-drop}
 use Rattle.std.specs.Prelude.{◌==◌, slice_index, if◌then◌else◌}
 use Rattle.std.proofs.lemmas.List.{get_or-take, take-append-le, drop-append-le, drop-take, take-append-drop, get_or_append_left}
-use Rattle.std.proofs.lemmas.Bool.{cases_lt, eqb-true, eq-eqb, ltb-true, ltb-false, le-ltb, lt-ltb}
+use Rattle.std.proofs.lemmas.Bool.{eqb-true, eq-eqb, ltb-true, ltb-false, le-ltb, lt-ltb}
 use Rattle.ogg_pages.specs.declared.page.Verdict.{Verdict}
 use Rattle.ogg_pages.specs.declared.page.Verdict.TheVariants.{Whole, Need, Fault}
-use Rattle.ogg_pages.specs.declared.page.PageFault.{PageFault}
 use Rattle.ogg_pages.specs.declared.page.PageFault.TheVariants.{BadCapture, BadPageVersion, BadChecksum}
-use Rattle.ogg_pages.specs.Bounds.{segments_of, lacing_of, page_len}
+use Rattle.ogg_pages.specs.Bounds.{lacing_of, page_len}
 use Rattle.ogg_pages.specs.Verdicts.{captures, summed, verdict}
 use Rattle.ogg_pages.specs.Sound.{IsSound, IsCut}
 

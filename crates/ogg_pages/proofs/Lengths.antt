@@ -1,9 +1,9 @@
 -- The length of a page by its own fields.
-use Rattle.std.proofs.Common.{◌≡◌, ℕ, zero, suc, ◌+◌, ◌*◌, ◌<◌, ◌≤◌, ◌^◌, List, [], ◌∷◌, length, get_or, take, drop, sum, refl, sym, ◌∙◌, ap, subst, arith, length-take, length-drop, get_or-drop, ◌⊎◌, inl, inr}
+use Rattle.std.proofs.Common.{◌≡◌, ℕ, suc, ◌+◌, ◌*◌, ◌<◌, ◌≤◌, List, [], ◌∷◌, length, get_or, sum, arith, length-take, get_or-drop, ◌⊎◌, inl, inr}
 use Rattle.std.proofs.lemmas.List.{get_or-take, get_or_past}
 use Rattle.std.proofs.lemmas.Bool.{cases_lt}
 use Rattle.std.proofs.lemmas.List.Sums.{sum_by-cons}
-use Rattle.ogg_pages.specs.Bounds.{segments_of, lacing_of, page_len}
+use Rattle.ogg_pages.specs.Bounds.{segments_of, lacing_of}
 
 -- bytes add up to at most 255 each
 pub sum-bytes : (xs : List ℕ) → ((k : ℕ) → get_or xs k 0 < 256) → sum xs ≤ 255 * length xs

@@ -1,12 +1,12 @@
 -- Writing a page into its room, part by part.
-use Rattle.std.proofs.Common.{◌≡◌, ℕ, zero, suc, ◌+◌, ◌-◌, ◌*◌, ◌/◌, ◌%◌, ◌<◌, ◌≤◌, List, [], ◌∷◌, ◌++◌, length, get_or, take, drop, sum, replicate, refl, sym, ◌∙◌, ap, subst, arith, append_assoc, length-append, length-take, length-drop, drop-drop, add-one}
+use Rattle.std.proofs.Common.{◌≡◌, ℕ, ◌+◌, ◌/◌, ◌%◌, ◌<◌, ◌≤◌, List, [], ◌∷◌, ◌++◌, length, get_or, take, drop, replicate, refl, sym, ◌∙◌, ap, arith, append_assoc, length-append, drop-drop, add-one}
 use Rattle.std.proofs.Math.Seq.{take-append_seam, drop-append-add, take-suc-set}
 use Rattle.std.proofs.lemmas.List.{take-replicate}
 use Rattle.std.proofs.Math.ListN.{length-replicate, set}
 use Rattle.byteorder.specs.Endian.{little_bytes}
 use Rattle.ogg_pages.specs.Fields.{Page}
 use Rattle.ogg_pages.specs.Checksum.{checksum}
-use Rattle.ogg_pages.specs.Spelling.{header, with_checksum, spelling, packet_lacing, packet_page}
+use Rattle.ogg_pages.specs.Spelling.{header, with_checksum, spelling, packet_lacing}
 
 pub length-packet_lacing : (len : ℕ) → length (packet_lacing len) ≡ len / 255 + 1
 length-packet_lacing len = length-append (replicate (len / 255) 255) (len % 255 ∷ []) ∙ ap (λ n. n + 1) (length-replicate (len / 255) 255)

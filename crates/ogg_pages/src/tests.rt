@@ -95,9 +95,11 @@ fn a_page_is_written(rt: HostRuntime) -> Result<(), std::alloc::AllocError> {
     assert_eq!(rt; out.len(), MAX_PAGE_LEN);
     let len = write_page(4, -2, 5, &packet, &mut out);
     assert_eq!(rt; len, 329);
-    assert_eq!(rt; &out[..29], &LAST_HEAD[..]);
-    assert_eq!(rt; &out[29..329], &packet[..]);
-    assert!(rt; out[329..].iter().all(|byte| *byte == 7));
+    let mut want = Vec::from_slice(rt.alloc(), &LAST_HEAD)?;
+    want.extend_from_slice(&packet)?;
+    let untouched = filled(rt.alloc(), MAX_PAGE_LEN - 329)?;
+    want.extend_from_slice(&untouched)?;
+    assert_eq!(rt; out.as_slice(), want.as_slice());
     assert_eq!(rt; judge(&out), Verdict::Whole(329));
     Ok(())
 }

@@ -1,9 +1,9 @@
-use Rattle.std.proofs.Common.{◌≡◌, ◌+◌, ◌++◌, ℕ, List, [], length, take, drop, sym, refl, ◌∙◌, ap, arith, length-append, to_z-of_z}
+use Rattle.std.proofs.Common.{◌≡◌, ◌+◌, ◌++◌, length, take, drop, sym, ◌∙◌, ap, arith, length-append, to_z-of_z}
 use Rattle.byteorder.specs.Endian.{little_bytes}
 use Rattle.ogg_pages.specs.Fields.{Page}
 use Rattle.ogg_pages.specs.Checksum.{checksum}
-use Rattle.ogg_pages.specs.Spelling.{header, with_checksum, packet_lacing, packet_page}
-use Rattle.ogg_pages.proofs.Written.{put_behind, page_written, length-with_checksum, length-spelling, length-packet_lacing}
+use Rattle.ogg_pages.specs.Spelling.{header, with_checksum, packet_page}
+use Rattle.ogg_pages.proofs.Written.{put_behind, page_written, length-with_checksum, length-spelling}
 use Rattle.ogg_pages.proofs.writer.write_page.Goals as goal
 
 pub returns-clause-len : goal.returns-clause-len
