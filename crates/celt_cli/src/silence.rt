@@ -2,14 +2,14 @@
 //! gain, each page one whole packet, each frame silent.
 ghost use Rattle.std.specs.Prelude.{◌≡◌, ◌+◌, ◌*◌, ◌^◌, ◌<◌, ◌≤◌, ◌==◌, ◌&&◌, ◌%◌, length, slice_index, true};
 ghost use Rattle.std.specs.List.{list_all};
-ghost use Rattle.celt_cli.specs.Form.{holds_packet, is_head, is_tags, is_silence, begins_stream, has_comments, has_silence, samples_of};
+ghost use Rattle.celt_cli.specs.Form.{holds_packet, is_head, is_plain_head, is_tags, is_silence, begins_stream, has_comments, has_silence, samples_of};
 ghost use Rattle.range_coder.specs.Reading.{first_bit};
 ghost use Rattle.celt_base.specs.Kinds.{config_of_toc};
 ghost use Rattle.ogg_pages.specs.Views.{page_in};
 
-use byteorder::{ByteOrder, LittleEndian};
 use celt_base::question::Question;
 use ogg_pages::view::PageView;
+use opus_packets::{Head, HeadFault, read_head};
 use range_coder::Reader;
 
 /// Whether all lacing values are 255.
@@ -32,23 +32,23 @@ fn is_one_packet(lacing: &[u8]) -> bool
     are_full(front) && lacing[full] < 255
 }
 
-/// Whether this is an identification header of version 1 for one channel, with pre-skip 0, gain 0 and
-/// mapping family 0 (RFC 7845, section 5.1). The input rate is passed over.
+/// Whether the header says one channel, pre-skip 0 and gain 0.
+fn is_plain(head: Result<Head, HeadFault>) -> bool
+    ensures { result ≡ is_plain_head head }
+{
+    match head {
+        Ok(head) => head.channels == 1 && head.preskip == 0 && head.gain == 0,
+        Err(_) => false,
+    }
+}
+
+/// Whether this is an identification header of 19 bytes and version 1 for one channel, with pre-skip 0,
+/// gain 0 and mapping family 0 (RFC 7845, section 5.1). The input rate is passed over.
 #[tactic(auto, unfolding(crate::specs::Form::is_head))]
 fn is_mono_head(packet: &[u8]) -> bool
     ensures { result ≡ is_head packet.now }
 {
-    if packet.len() != 19 {
-        return false;
-    }
-    let (_, preskip) = packet.split_at(10);
-    let (_, gain) = packet.split_at(16);
-    packet.starts_with(b"OpusHead")
-        && packet[8] == 1
-        && packet[9] == 1
-        && LittleEndian::read_u16(preskip) == 0
-        && LittleEndian::read_u16(gain) == 0
-        && packet[18] == 0
+    packet.len() == 19 && packet[8] == 1 && is_plain(read_head(packet))
 }
 
 /// Whether this is a comment header (RFC 7845, section 5.2). What follows its letters is passed over.
