@@ -65,6 +65,12 @@ const EMPTY: [u8; 27] = [
     0x00, 0x00, 0x02, 0x00, 0x00, 0x00, 0x7e, 0x43, 0x8c, 0x55, 0x00,
 ];
 
+/// The header of a last page of 255 segments without bytes.
+const SEGMENTS_HEADER: [u8; 27] = [
+    0x4f, 0x67, 0x67, 0x53, 0x00, 0x04, 0x00, 0x00, 0x00, 0x00, 0x00, 0x00, 0x00, 0x00, 0x01, 0x00,
+    0x00, 0x00, 0x02, 0x00, 0x00, 0x00, 0xf0, 0xb5, 0x6c, 0x87, 0xff,
+];
+
 /// What a run gave.
 #[derive(Drop)]
 struct Outcome {
@@ -218,6 +224,8 @@ fn refused_streams(rt: HostRuntime) -> Result<(), AllocError> {
     expect(&rt, &sound, unbuilt, 0, "celt: 99 NotBuilt page 2\n")?;
     let empty = stream(alloc, &[&EMPTY])?;
     expect(&rt, &empty, unbuilt, 0, "celt: 99 NotBuilt page 2\n")?;
+    let segments = stream(alloc, &[&SEGMENTS_HEADER, &[0; 255]])?;
+    expect(&rt, &segments, unbuilt, 0, "celt: 99 NotBuilt page 2\n")?;
     let after = stream(alloc, &[&SILENCE, &[0]])?;
     let behind = refused(FaultName::NotBuilt, 3);
     expect(&rt, &after, behind, 1920, "celt: 99 NotBuilt page 3\n")?;

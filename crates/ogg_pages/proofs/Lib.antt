@@ -4,6 +4,7 @@ pub mod Judged
 pub mod Laced
 pub mod Later
 pub mod Lengths
+pub mod PacketPages
 pub mod Readings
 pub mod Register
 pub mod Remainders

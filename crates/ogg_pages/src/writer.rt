@@ -2,6 +2,8 @@
 ghost use Rattle.std.specs.Prelude.{◌≡◌, ◌+◌, ◌/◌, ◌<◌, ◌≤◌, [], ◌++◌, ◌∷◌, length, take, drop};
 ghost use Rattle.std.specs.Int.{w64, cast_unsigned};
 ghost use Rattle.byteorder.specs.Endian.{little_bytes};
+ghost use Rattle.ogg_pages.specs.declared.page.Verdict.TheVariants.{Whole};
+ghost use Rattle.ogg_pages.specs.Verdicts.{verdict};
 ghost use Rattle.ogg_pages.specs.Spelling.{header, packet_lacing, packet_page, spelling};
 
 use crate::checksum::checksum_of;
@@ -60,6 +62,7 @@ pub fn write_page(flags: u8, granule: i64, sequence: u32, packet: &[u8], out: &m
     requires room { length out.old ≡ 65307 }
     ensures len { result ≡ length (spelling (packet_page flags granule sequence packet.now)) }
     ensures written { out.new ≡ spelling (packet_page flags granule sequence packet.now) ++ drop result out.old }
+    ensures accepted { verdict out.new ≡ Whole result }
 {
     let blank = blank_header(flags, granule, sequence, packet);
     let at = put(out, 0, &blank);

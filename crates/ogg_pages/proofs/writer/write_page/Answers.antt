@@ -1,9 +1,13 @@
-use Rattle.std.proofs.Common.{◌≡◌, ◌+◌, ◌++◌, length, take, drop, sym, ◌∙◌, ap, arith, length-append, to_z-of_z}
+use Rattle.std.proofs.Common.{◌<◌, ◌^◌, ◌≡◌, ◌+◌, ◌++◌, length, take, drop, sym, ◌∙◌, ap, arith, length-append, to_z-of_z}
 use Rattle.byteorder.specs.Endian.{little_bytes}
 use Rattle.ogg_pages.specs.Fields.{Page}
 use Rattle.ogg_pages.specs.Checksum.{checksum}
 use Rattle.ogg_pages.specs.Spelling.{header, with_checksum, packet_page}
 use Rattle.ogg_pages.proofs.Written.{put_behind, page_written, length-with_checksum, length-spelling}
+use Rattle.ogg_pages.specs.Verdicts.{verdict}
+use Rattle.ogg_pages.specs.declared.page.Verdict.TheVariants.{Whole}
+use Rattle.ogg_pages.proofs.PacketPages.{packet_is_page}
+use Rattle.ogg_pages.proofs.Spelled.{spelling_read}
 use Rattle.ogg_pages.proofs.writer.write_page.Goals as goal
 
 pub returns-clause-len : goal.returns-clause-len
@@ -43,3 +47,12 @@ returns-clause-written c =
     ∙ ap (λ l. take 22 c.put-end.new.out ++ (l ++ drop c.put.result c.put-end.new.out)) sum_bytes
     ∙ ap (λ n. take 22 c.put-end.new.out ++ (little_bytes 4 (checksum (take c.put-end.result c.put-end.new.out)) ++ drop n c.put-end.new.out)) next
     ∙ page_written p c.put-end.new.out old c.put-end.result three end
+
+pub returns-clause-accepted : goal.returns-clause-accepted
+returns-clause-accepted c =
+    let p : Page = packet_page c.args.flags c.args.granule c.args.sequence c.args.packet.now in
+    let flags : c.args.flags < 256 = let f = c.ranges.flags in omega arith in
+    let sequence : c.args.sequence < 2 ^ 32 = let f = c.ranges.sequence in omega arith in
+    let is = packet_is_page c.args.flags c.args.granule c.args.sequence c.args.packet.now flags c.ranges.granule sequence c.requires.packet_len
+    (λ k. let f = c.type_inv.packet k in omega arith) in
+    ap verdict (returns-clause-written c) ∙ spelling_read p (drop c.put-end.result c.args.out.now) is ∙ ap Whole (sym (returns-clause-len c))
