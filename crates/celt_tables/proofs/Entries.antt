@@ -1,25 +1,12 @@
 -- A test of each entry of a table is a fact of each entry.
-use Rattle.std.proofs.Common.{◌≡◌, ℕ, zero, suc, ◌+◌, ◌*◌, ◌/◌, ◌%◌, ◌^◌, ◌<◌, ◌≤◌, Bool, true, false, ◌&&◌, if◌then◌else◌, nat_lt, nat_le, inl, inr, refl, ap, sym, ◌∙◌, subst, arith}
-use Rattle.std.proofs.lemmas.Bool.{cases_eq, and_parts}
-use Rattle.std.proofs.lemmas.Bool.Decides.{nat_tests}
+use Rattle.std.proofs.Common.{◌≡◌, ℕ, ◌+◌, ◌*◌, ◌/◌, ◌%◌, ◌<◌, ◌≤◌, Bool, true, false, ◌&&◌, if◌then◌else◌, nat_lt, nat_le, refl, ap, ◌∙◌, subst, arith}
+use Rattle.std.proofs.lemmas.Bool.{and_parts}
 use Rattle.celt_base.specs.declared.question.Question.TheVariants.{Laplace}
 use Rattle.celt_base.specs.Questions.{IsValid}
+use Rattle.celt_base.proofs.Below.{all_below, at_each, less, at_most}
 use Rattle.celt_tables.specs.Tables.{edge_of, caps_entry, allocation_entry, model_entry, fs_of, decay_of, window_entry}
 
--- a test of each number below `count`
-abbrev pub all_below : (ℕ → Bool) → ℕ → Bool
-all_below test zero = true
-all_below test (suc n) = all_below test n && test n
-
-pub at_each : (test : ℕ → Bool) (count k : ℕ) → all_below test count ≡ true → k < count → test k ≡ true
-at_each test zero k all below = absurd (omega arith)
-at_each test (suc n) k all below =
-    elim (cases_eq k n) [
-      | inl e ↦ subst (λ j. test j ≡ true) (sym e) (and_parts (all_below test n) (test n) all).1
-      | inr ne ↦ at_each test n k (and_parts (all_below test n) (test n) all).0 (omega arith)
-    ]
-
--- the same of each row and place, the rows of 21 one after the other
+-- each row and place, the rows of 21 one after the other
 at_both : (test : ℕ → ℕ → Bool) (rows row i : ℕ) → all_below (λ k. test (k / 21) (k % 21)) (21 * rows) ≡ true → row < rows → i < 21
     → test row i ≡ true
 at_both test rows row i all below inside =
@@ -28,17 +15,8 @@ at_both test rows row i all below inside =
     let place_is : (21 * row + i) % 21 ≡ i = omega arith in
     subst (λ n. test row n ≡ true) place_is (subst (λ n. test n ((21 * row + i) % 21) ≡ true) row_is at)
 
-less : (a b : ℕ) → nat_lt a b ≡ true → a < b
-less a b test = grind (arith, nat_tests)
-
-at_most : (a b : ℕ) → nat_le a b ≡ true → a ≤ b
-at_most a b test = grind (arith, nat_tests)
-
 pub edges_rise : (i : ℕ) → i < 21 → edge_of i < edge_of (i + 1)
 edges_rise i inside = less (edge_of i) (edge_of (i + 1)) (at_each (λ k. nat_lt (edge_of k) (edge_of (k + 1))) 21 i refl inside)
-
-width_most : (i : ℕ) → i < 21 → edge_of (i + 1) ≤ edge_of i + 22
-width_most i inside = at_most (edge_of (i + 1)) (edge_of i + 22) (at_each (λ k. nat_le (edge_of (k + 1)) (edge_of k + 22)) 21 i refl inside)
 
 pub caps_most : (row i : ℕ) → row < 8 → i < 21 → caps_entry row i ≤ 240
 caps_most row i below inside = at_most (caps_entry row i) 240 (at_both (λ r k. nat_le (caps_entry r k) 240) 8 row i refl below inside)

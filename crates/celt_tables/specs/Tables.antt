@@ -1,5 +1,5 @@
 -- The entries of the tables by their places (RFC 6716, section 4.3).
-use Rattle.std.specs.Prelude.{◌≡◌, ℕ, ◌+◌, ◌-◌, ◌*◌, ◌/◌, ◌^◌, Bool, if◌then◌else◌, List, [], get_or, slice_index, ℤ, pos}
+use Rattle.std.specs.Prelude.{ℕ, ◌+◌, ◌-◌, ◌*◌, ◌/◌, ◌^◌, Bool, if◌then◌else◌, [], get_or, slice_index, ℤ, pos}
 use Rattle.celt_tables.specs.declared.bands.TheConstants.{EDGES}
 use Rattle.celt_tables.specs.declared.bits.TheConstants.{CAPS, ALLOCATION}
 use Rattle.celt_tables.specs.declared.energies.TheConstants.{ENERGY_MODELS}

@@ -1,4 +1,4 @@
-use Rattle.std.proofs.Common.{◌<◌, arith}
+use Rattle.std.proofs.Common.{arith}
 use Rattle.celt_tables.proofs.Entries.{caps_most}
 use Rattle.celt_tables.proofs.bits.caps_entry.Goals as goal
 

@@ -1,4 +1,4 @@
-use Rattle.std.proofs.Common.{◌<◌, true, false, arith}
+use Rattle.std.proofs.Common.{true, false, arith}
 use Rattle.celt_tables.proofs.Entries.{model_within}
 use Rattle.celt_tables.proofs.energies.model_entry.Goals as goal
 
