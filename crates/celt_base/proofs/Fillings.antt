@@ -222,3 +222,46 @@ place_of_one (pos m) (pos n) e = ap pos (omega arith)
 place_of_one (pos m) (negsuc n) e = absurd (omega arith)
 place_of_one (negsuc m) (pos n) e = absurd (omega arith)
 place_of_one (negsuc m) (negsuc n) e = ap negsuc (omega arith)
+
+-- where a part begins and ends, half by half
+pub step_low : (most n : ℕ) → IsEven most → n ≤ most / 2 → (start (step_row most) n ≡ 3 * n) × (start (step_row most) (suc n) ≡ 3 * n + 3)
+step_low most n even low =
+    let own = sum_start (step_row most) (most + 1) (step_at (most / 2)) (step_sum most even) n (omega arith) in
+    let next = sum_start (step_row most) (most + 1) (step_at (most / 2)) (step_sum most even) (suc n) (omega arith) in
+    (omega arith, omega arith)
+
+pub step_high : (most n : ℕ) → IsEven most → most / 2 < n → n ≤ most
+    → (start (step_row most) n ≡ n + 2 * (most / 2 + 1)) × (start (step_row most) (suc n) ≡ n + 2 * (most / 2 + 1) + 1)
+step_high most n even high within =
+    let own = sum_start (step_row most) (most + 1) (step_at (most / 2)) (step_sum most even) n (omega arith) in
+    let next = sum_start (step_row most) (most + 1) (step_at (most / 2)) (step_sum most even) (suc n) (omega arith) in
+    (omega arith, omega arith)
+
+pub triangle_part_low : (most n : ℕ) → IsEven most → n < most / 2
+    → (start (triangle_row most) n ≡ sum_to n) × (start (triangle_row most) (suc n) ≡ sum_to (suc n))
+triangle_part_low most n even low =
+    let own = sum_start (triangle_row most) (most + 1) (triangle_at (most / 2)) (triangle_sum most even) n (omega arith) in
+    let next = sum_start (triangle_row most) (most + 1) (triangle_at (most / 2)) (triangle_sum most even) (suc n) (omega arith) in
+    (own ∙ triangle_low (most / 2) n (omega arith), next ∙ triangle_low (most / 2) (suc n) (omega arith))
+
+-- `left` numbers are above it
+pub triangle_part_high : (most left n : ℕ) → IsEven most → left ≤ most / 2 → n + left ≡ most
+    → (start (triangle_row most) n ≡ (most / 2 + 1) * (most / 2 + 1) - sum_to (suc left))
+    × (start (triangle_row most) (suc n) ≡ (most / 2 + 1) * (most / 2 + 1) - sum_to left)
+triangle_part_high most left n even few at =
+    let half = most / 2 in
+    let two = even.0 in
+    let own = sum_start (triangle_row most) (most + 1) (triangle_at half) (triangle_sum most even) n (omega arith) in
+    let next = sum_start (triangle_row most) (most + 1) (triangle_at half) (triangle_sum most even) (suc n) (omega arith) in
+    let upper = triangle_high half (suc n) (omega arith) ∙ ap (λ k. (half + 1) * (half + 1) - sum_to k) (let e : 2 * half + 1 - suc n ≡ left = omega arith in e) in (
+      elim (cases_eq left half) [
+        | inl e ↦
+            let n_is : n ≡ half = omega arith in
+            let low = triangle_low half n (omega arith) ∙ ap sum_to n_is in
+            let square = square_is half in
+            let last : sum_to (suc left) ≡ sum_to (suc half) = ap (λ k. sum_to (suc k)) e in
+            omega arith
+        | inr ne ↦ own ∙ triangle_high half n (omega arith) ∙ ap (λ k. (half + 1) * (half + 1) - sum_to k) (let e : 2 * half + 1 - n ≡ suc left = omega arith in e)
+      ],
+      next ∙ upper,
+    )

@@ -4,7 +4,7 @@ ghost use Rattle.std.specs.Prelude.{◌≡◌, ℕ, ◌+◌, ◌-◌, ◌*◌, �
 ghost use Rattle.celt_base.specs.declared.question.Question.{Question};
 ghost use Rattle.celt_base.specs.declared.question.Question.TheVariants.{Bit};
 ghost use Rattle.celt_base.specs.Intervals.{Interval, whole, narrowed};
-ghost use Rattle.celt_base.specs.Questions.{Answered, Fills, bit_row, interval_of};
+ghost use Rattle.celt_base.specs.Questions.{Answered, interval_of};
 ghost use Rattle.celt_base.specs.Paces.{pace_of};
 ghost use Rattle.range_coder.specs.declared.reader.Reader.{Reader};
 ghost use Rattle.range_coder.specs.FrameBits.{head, bit_at};
@@ -35,11 +35,6 @@ pub fn law_narrowing()
 pub fn law_interval_end()
     ensures { (list : List Answered)
         → (interval_of list).low + (interval_of list).width ≤ 2 ^ (31 + (interval_of list).shift) }
-{}
-
-/// The parts of a bit are not empty and fill the range.
-pub fn law_bit_parts()
-    ensures { (p : ℕ) → 1 ≤ p → Fills (bit_row p) 2 }
 {}
 
 /// The pace of a reader is that of each list that it stands for, and two readers that stand for one list have one pace.
