@@ -1,8 +1,8 @@
 -- A place of a total against the frame's number, and the window behind a part.
-use Rattle.std.proofs.Common.{◌≡◌, ℕ, zero, suc, ◌+◌, ◌-◌, ◌*◌, ◌/◌, ◌^◌, ◌<◌, ◌≤◌, min, List, slice_index, ap, ◌∙◌, arith}
+use Rattle.std.proofs.Common.{◌≡◌, ℕ, zero, suc, ◌+◌, ◌-◌, ◌*◌, ◌/◌, ◌^◌, ◌<◌, ◌≤◌, List, slice_index, ap, ◌∙◌, arith}
 use Rattle.std.proofs.lemmas.Nat.{le-div}
 use Rattle.std.proofs.Math.Nat.{div-mul-le_self, mul-le-mul_left, lt-mul-div-succ}
-use Rattle.celt_base.specs.Intervals.{Part, Interval, InPart, InBits, depth, narrowed, grown, after}
+use Rattle.celt_base.specs.Intervals.{Part, Interval, InBits, depth, narrowed, grown, after}
 use Rattle.celt_base.specs.Paces.{narrowed_pace, grown_pace, after_pace}
 use Rattle.range_coder.specs.declared.window.Window.{Window}
 use Rattle.range_coder.specs.Reading.{Holds}

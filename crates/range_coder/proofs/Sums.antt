@@ -1,8 +1,8 @@
 -- The root of a sum, and the places of a triangle.
-use Rattle.std.proofs.Common.{◌≡◌, ℕ, zero, suc, ◌+◌, ◌-◌, ◌*◌, ◌/◌, ◌%◌, ◌<◌, ◌≤◌, inl, inr, ap, ◌∙◌, subst, arith}
+use Rattle.std.proofs.Common.{◌≡◌, ℕ, zero, suc, ◌+◌, ◌-◌, ◌*◌, ◌/◌, ◌%◌, ◌<◌, ◌≤◌, inl, inr, ap, subst, arith}
 use Rattle.std.proofs.lemmas.Bool.{cases_lt, cases_eq}
 use Rattle.std.proofs.lemmas.Nat.{mul-le}
-use Rattle.celt_base.proofs.Fillings.{sum_to, twice_sum_to, square_is}
+use Rattle.celt_base.proofs.Fillings.{sum_to, twice_sum_to}
 
 -- n with n (n + 1) not above twice a number, and the next one above it
 pub record IsRoot (sum n : ℕ) : Type 0 where

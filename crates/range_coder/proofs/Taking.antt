@@ -1,17 +1,17 @@
 -- A window that takes the part of an answer takes the answer.
-use Rattle.std.proofs.Common.{◌≡◌, ℕ, zero, suc, ◌+◌, ◌-◌, ◌*◌, ◌/◌, ◌%◌, ◌^◌, ◌<◌, ◌≤◌, min, List, [], ◌∷◌, ℤ, pos, negsuc, refl, sym, ap, ◌∙◌, subst, arith}
+use Rattle.std.proofs.Common.{◌≡◌, ℕ, zero, suc, ◌+◌, ◌-◌, ◌*◌, ◌/◌, ◌%◌, ◌^◌, ◌<◌, ◌≤◌, min, List, [], ◌∷◌, ℤ, pos, refl, sym, ap, ◌∙◌, subst, arith}
 use Rattle.std.specs.List.{fold}
 use Rattle.std.proofs.lemmas.Nat.{mul-le, shr_below, leading_length, div_below, le-div}
-use Rattle.std.proofs.Math.Nat.{div-mul-le_self, mul-le-mul_left, pow-le-pow_right}
+use Rattle.std.proofs.Math.Nat.{div-mul-le_self, pow-le-pow_right}
 use Rattle.celt_base.specs.declared.question.Question.{Question}
 use Rattle.celt_base.specs.declared.question.Question.TheVariants.{Uniform, Raw}
-use Rattle.celt_base.specs.Intervals.{Part, Symbol, InPart, InBits, Interval, narrowed, after}
+use Rattle.celt_base.specs.Intervals.{Part, InPart, InBits, Interval, narrowed, after}
 use Rattle.celt_base.specs.Paces.{Pace, after_pace, paced}
 use Rattle.celt_base.specs.Questions.{Row, start, part_of, IsAnswer, steps, low_steps, bit_length, low_bits, uniform_row}
 use Rattle.celt_base.proofs.Fillings.{sum_start, uniform_sum}
 use Rattle.range_coder.specs.declared.window.Window.{Window}
 use Rattle.range_coder.specs.FrameBits.{tail}
-use Rattle.range_coder.specs.Reading.{Holds, IsGiven, IsNumber}
+use Rattle.range_coder.specs.Reading.{Holds, IsGiven}
 use Rattle.range_coder.specs.Windows.{Shows, window_pace, TakesPart, TakesAnswer}
 
 pub takes_part : (frame : List ℕ) (w r : Window) (q : Question) (a : ℤ) (part : Part) → IsAnswer q a → steps q a ≡ InPart part ∷ []

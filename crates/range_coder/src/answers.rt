@@ -1,6 +1,6 @@
 //! How a window answers each kind of question (RFC 6716, sections 4.1.2 to 4.1.5, 4.3.2.1 and 4.3.4.3): the answer whose
 //! part holds the frame's number, and the window after it.
-ghost use Rattle.std.specs.Prelude.{◌≡◌, ◌+◌, ◌-◌, ◌*◌, ◌/◌, ◌^◌, ◌<◌, ◌≤◌, pos, negsuc};
+ghost use Rattle.std.specs.Prelude.{◌≡◌, ◌+◌, ◌-◌, ◌*◌, ◌/◌, ◌^◌, ◌<◌, ◌≤◌, pos, negsuc, unsigned_abs};
 ghost use Rattle.celt_base.specs.declared.question.Question.TheVariants.{
   Bit,
   Table,
@@ -272,6 +272,7 @@ fn read_laplace(window: Window, frame: &[u8], fs: u32, decay: u32) -> (i64, Wind
     requires wide { 2 ^ 23 < window.width }
     requires bits { window.bits < 2 ^ 30 }
     ensures takes { TakesAnswer frame.now window (Laplace fs decay) result.0 result.1 }
+    ensures small { unsigned_abs result.0 < 2 ^ 32 }
     ensures wide { 2 ^ 23 < result.1.width }
     ensures grown { result.1.bits ≤ window.bits + 40 }
 {
@@ -300,6 +301,7 @@ fn read_laplace(window: Window, frame: &[u8], fs: u32, decay: u32) -> (i64, Wind
 /// An answer as a signed number.
 fn signed(answer: (u32, Window)) -> (i64, Window)
     ensures answer { result.0 ≡ pos answer.0 }
+    ensures small { unsigned_abs result.0 < 2 ^ 32 }
     ensures window { result.1 ≡ answer.1 }
 {
     (i64::from(answer.0), answer.1)
@@ -311,6 +313,7 @@ pub fn read_answer(window: Window, frame: &[u8], question: Question) -> (i64, Wi
     requires wide { 2 ^ 23 < window.width }
     requires bits { window.bits < 2 ^ 30 }
     ensures takes { TakesAnswer frame.now window question result.0 result.1 }
+    ensures small { unsigned_abs result.0 < 2 ^ 32 }
     ensures wide { 2 ^ 23 < result.1.width }
     ensures grown { result.1.bits ≤ window.bits + 40 }
 {

@@ -1,5 +1,5 @@
 use Rattle.std.proofs.Common.{◌≡◌, ◌+◌, ◌-◌, ◌<◌, ◌≤◌}
-use Rattle.celt_base.specs.Questions.{start, table_row, total_of, answers_of}
+use Rattle.celt_base.specs.Questions.{start, table_row, answers_of}
 use Rattle.range_coder.proofs.answers.place_in.Given as goal
 
 abbrev pub invariant-loop-to : goal.invariant-loop-to

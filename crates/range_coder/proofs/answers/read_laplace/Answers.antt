@@ -1,7 +1,7 @@
-use Rattle.std.proofs.Common.{◌≡◌, ◌+◌, ◌*◌, ◌^◌, ◌<◌, ◌≤◌, suc, min, pos, negsuc, refl, sym, ◌∙◌, subst, w64, FitsSigned, arith}
+use Rattle.std.proofs.Common.{◌+◌, ◌*◌, pos, negsuc, refl, sym, ◌∙◌, subst, w64, FitsSigned, arith}
 use Rattle.std.proofs.lemmas.Int.{ints, to_z-of_z, fits_signed_from_abs}
 use Rattle.celt_base.specs.declared.question.Question.TheVariants.{Laplace}
-use Rattle.celt_base.specs.Questions.{start, laplace_row}
+use Rattle.celt_base.specs.Questions.{laplace_row}
 use Rattle.range_coder.specs.Windows.{TakesAnswer}
 use Rattle.range_coder.proofs.LaplaceWalk.{zero_ends, minus_ends, plus_ends}
 use Rattle.range_coder.proofs.Taking.{takes_row}

@@ -1,4 +1,4 @@
-use Rattle.std.proofs.Common.{◌≡◌, ◌+◌, ◌-◌, ◌*◌, ◌/◌, ◌<◌, ◌≤◌, pos, refl, arith}
+use Rattle.std.proofs.Common.{◌+◌, ◌-◌, ◌*◌, ◌/◌, pos, refl, arith}
 use Rattle.celt_base.specs.declared.question.Question.TheVariants.{Step}
 use Rattle.celt_base.specs.Questions.{step_row}
 use Rattle.celt_base.proofs.Fillings.{step_low, step_high}

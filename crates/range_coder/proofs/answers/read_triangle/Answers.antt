@@ -1,8 +1,8 @@
-use Rattle.std.proofs.Common.{◌≡◌, ◌+◌, ◌-◌, ◌*◌, ◌/◌, ◌<◌, ◌≤◌, pos, refl, sym, ◌∙◌, arith}
+use Rattle.std.proofs.Common.{◌-◌, ◌/◌, pos, refl, sym, ◌∙◌, arith}
 use Rattle.celt_base.specs.declared.question.Question.TheVariants.{Triangle}
 use Rattle.celt_base.specs.Questions.{triangle_row}
 use Rattle.celt_base.proofs.Fillings.{triangle_part_low, triangle_part_high}
-use Rattle.range_coder.proofs.Sums.{LowPlace, low_place, HighPlace, high_place, root_below}
+use Rattle.range_coder.proofs.Sums.{low_place, high_place, root_below}
 use Rattle.range_coder.proofs.Taking.{takes_row}
 use Rattle.range_coder.proofs.answers.read_triangle.Goals as goal
 

@@ -1,4 +1,3 @@
-use Rattle.std.proofs.Common.{◌+◌, ◌*◌, ◌<◌, ◌≤◌, arith}
 use Rattle.range_coder.proofs.Sums.{root_is}
 use Rattle.range_coder.proofs.answers.root_of_sum.Goals as goal
 

@@ -1,4 +1,3 @@
-use Rattle.std.proofs.Common.{◌≤◌}
 use Rattle.range_coder.proofs.LaplaceWalk.{Further, further}
 use Rattle.range_coder.proofs.answers.sides_at.Goals as goal
 

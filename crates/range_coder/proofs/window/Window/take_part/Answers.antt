@@ -1,5 +1,5 @@
-use Rattle.std.proofs.Common.{◌≡◌, ◌-◌, ◌/◌, ◌^◌, ◌<◌, ◌≤◌, refl, arith}
-use Rattle.celt_base.specs.Intervals.{Part, depth}
+use Rattle.std.proofs.Common.{arith}
+use Rattle.celt_base.specs.Intervals.{Part}
 use Rattle.range_coder.specs.Windows.{IsCut}
 use Rattle.range_coder.proofs.Cuts.{taken_part, unit_wide, part_wide, depth_within, depth_above}
 use Rattle.range_coder.proofs.window.Window.take_part.Goals as goal
