@@ -1,8 +1,9 @@
 -- The bits at the end of a frame, from four bytes counted from its end.
 use Rattle.std.proofs.Common.{◌≡◌, ℕ, zero, suc, ◌+◌, ◌-◌, ◌*◌, ◌/◌, ◌%◌, ◌^◌, ◌<◌, ◌≤◌, inl, inr, List, length, slice_index, refl, sym, ap, ◌∙◌, arith}
 use Rattle.std.proofs.lemmas.Bool.{cases_lt}
-use Rattle.std.proofs.lemmas.Nat.{pow-add}
-use Rattle.std.proofs.Math.Nat.{div-div-eq-div-mul, mul-add-mod_self_right}
+use Rattle.std.proofs.lemmas.Nat.{pow-add, pow_pos}
+use Rattle.std.proofs.Math.Arith.{mod-mul}
+use Rattle.std.proofs.Math.Nat.{div-le_self, div-div-eq-div-mul, mul-add-mod_self_right}
 use Rattle.range_coder.specs.FrameBits.{front, tail}
 use Rattle.range_coder.proofs.Bits.{front_more}
 
@@ -100,3 +101,45 @@ tail_is frame from count a b c d bytes few first second third fourth =
     let dropped : front frame (length frame) / 2 ^ from ≡ (above * 2 ^ 32 + word) / 2 ^ low =
     ap (λ n. front frame (length frame) / n) power ∙ sym twice ∙ ap (λ n. n / 2 ^ low) (front_dropped frame place bytes ∙ number) in
     ap (λ n. n % 2 ^ count) dropped ∙ within_word above word low count (omega arith) few
+
+-- the bits of a tail, the first one lowest
+pub tail_none : (frame : List ℕ) (from : ℕ) → tail frame from 0 ≡ 0
+unfolding tail
+tail_none frame from = omega arith
+
+pub tail_more : (frame : List ℕ) (from count : ℕ) → tail frame from (count + 1) ≡ tail frame from count + 2 ^ count * tail frame (from + count) 1
+unfolding tail
+tail_more frame from count =
+    let number = front frame (length frame) in
+    let twice_power = pow-add 2 count 1 in
+    let power : 2 ^ (count + 1) ≡ 2 * 2 ^ count = omega arith in
+    let split = mod-mul (number / 2 ^ from) {m = 2} {c = 2 ^ count} (omega arith) (pow_pos count) in
+    let twice = div-div-eq-div-mul number (2 ^ from) (2 ^ count) in
+    let both : 2 ^ (from + count) ≡ 2 ^ from * 2 ^ count = pow-add 2 from count in
+    let next : number / 2 ^ from / 2 ^ count ≡ number / 2 ^ (from + count) = twice ∙ ap (λ n. number / n) (sym both) in
+    ap (λ n. number / 2 ^ from % n) power ∙ split ∙ ap (λ n. n % 2 * 2 ^ count + number / 2 ^ from % 2 ^ count) next ∙ omega arith
+
+bit_of_byte : (above byte low : ℕ) → low < 8 → (above * 256 + byte) / 2 ^ low % 2 ≡ byte / 2 ^ low % 2
+bit_of_byte above byte zero le = omega arith
+bit_of_byte above byte (suc zero) le = omega arith
+bit_of_byte above byte (suc (suc zero)) le = omega arith
+bit_of_byte above byte (suc (suc (suc zero))) le = omega arith
+bit_of_byte above byte (suc (suc (suc (suc zero)))) le = omega arith
+bit_of_byte above byte (suc (suc (suc (suc (suc zero))))) le = omega arith
+bit_of_byte above byte (suc (suc (suc (suc (suc (suc zero)))))) le = omega arith
+bit_of_byte above byte (suc (suc (suc (suc (suc (suc (suc zero))))))) le = omega arith
+bit_of_byte above byte (suc (suc (suc (suc (suc (suc (suc (suc n)))))))) le = absurd (omega arith)
+
+pub tail_bit : (frame : List ℕ) (place low byte : ℕ) → ((k : ℕ) → slice_index frame k < 256) → low < 8 → IsFromEnd frame place byte
+    → tail frame (8 * place + low) 1 ≡ byte / 2 ^ low % 2
+unfolding tail
+tail_bit frame place low byte bytes inside is =
+    let number = front frame (length frame) in
+    let power : 2 ^ (8 * place + low) ≡ 2 ^ (8 * place) * 2 ^ low = pow-add 2 (8 * place) low in
+    let twice = div-div-eq-div-mul number (2 ^ (8 * place)) (2 ^ low) in
+    let dropped = front_dropped frame place bytes ∙ front_from_end frame place byte is in
+    ap (λ n. number / n % 2) power ∙ ap (λ n. n % 2) (sym twice) ∙ ap (λ n. n / 2 ^ low % 2) dropped
+    ∙ bit_of_byte (front frame (length frame - suc place)) byte low inside
+
+pub zero_bit : (low : ℕ) → 0 / 2 ^ low % 2 ≡ 0
+zero_bit low = let small = div-le_self 0 (2 ^ low) in omega arith

@@ -11,6 +11,7 @@ use Rattle.celt_base.specs.Questions.{Row, start, part_of, IsAnswer, steps, low_
 use Rattle.celt_base.proofs.Fillings.{sum_start, uniform_sum}
 use Rattle.range_coder.specs.declared.window.Window.{Window}
 use Rattle.range_coder.specs.FrameBits.{tail}
+use Rattle.range_coder.proofs.Tails.{tail_none}
 use Rattle.range_coder.specs.Reading.{Holds, IsGiven}
 use Rattle.range_coder.specs.Windows.{Shows, window_pace, TakesPart, TakesAnswer}
 
@@ -140,10 +141,6 @@ takes_wide frame w m r limit top raw number two some within below power e part v
 -- a narrow one: the part alone
 narrow_steps : (low n : ℕ) → low ≡ 0 → low_steps low n ≡ []
 narrow_steps low n e = ap (λ k. low_steps k n) e
-
-tail_none : (frame : List ℕ) (from : ℕ) → tail frame from 0 ≡ 0
-unfolding tail
-tail_none frame from = omega arith
 
 no_tail : (frame : List ℕ) (from count : ℕ) → count ≡ 0 → tail frame from count ≡ 0
 no_tail frame from count e = ap (tail frame from) e ∙ tail_none frame from

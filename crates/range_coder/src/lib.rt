@@ -11,6 +11,6 @@ mod window;
 
 pub use laws::{
     law_answers_determined, law_bit_answer, law_head, law_interval_end, law_narrowing,
-    law_one_pace, law_pace_bounds, law_readings_determined,
+    law_one_pace, law_pace_bounds, law_readings_determined, law_reads, law_tail,
 };
 pub use reader::Reader;
