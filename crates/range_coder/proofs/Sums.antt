@@ -1,33 +1,8 @@
--- The root of a sum, and the places of a triangle.
-use Rattle.std.proofs.Common.{◌≡◌, ℕ, zero, suc, ◌+◌, ◌-◌, ◌*◌, ◌/◌, ◌%◌, ◌<◌, ◌≤◌, inl, inr, ap, subst, arith}
-use Rattle.std.proofs.lemmas.Bool.{cases_lt, cases_eq}
+-- The places of a triangle.
+use Rattle.std.proofs.Common.{◌≡◌, ℕ, suc, ◌+◌, ◌-◌, ◌*◌, ◌/◌, ◌<◌, ◌≤◌, inl, inr, ap, arith}
+use Rattle.std.proofs.lemmas.Bool.{cases_lt}
 use Rattle.std.proofs.lemmas.Nat.{mul-le}
 use Rattle.celt_base.proofs.Fillings.{sum_to, twice_sum_to}
-
--- n with n (n + 1) not above twice a number, and the next one above it
-pub record IsRoot (sum n : ℕ) : Type 0 where
-  pub low : n * (n + 1) ≤ 2 * sum
-  pub high : 2 * sum < (n + 1) * (n + 2)
-
-root_odd : (sum n : ℕ) → (2 * n + 1) * (2 * n + 1) ≤ 8 * sum + 1 → 8 * sum + 1 < (2 * n + 2) * (2 * n + 2) → IsRoot sum n
-root_odd sum n low high = record { low = omega arith; high = omega arith }
-
-root_even : (sum n : ℕ) → (2 * n + 2) * (2 * n + 2) ≤ 8 * sum + 1 → 8 * sum + 1 < (2 * n + 3) * (2 * n + 3) → IsRoot sum n
-root_even sum n low high = record { low = omega arith; high = omega arith }
-
-pub root_is : (sum r : ℕ) → r * r ≤ 8 * sum + 1 → 8 * sum + 1 < (r + 1) * (r + 1) → IsRoot sum ((r - 1) / 2)
-root_is sum zero low high = absurd (omega arith)
-root_is sum (suc m) low high =
-    elim (cases_eq (m % 2) 0) [
-      | inl even ↦
-          let r : suc m ≡ 2 * ((suc m - 1) / 2) + 1 = omega arith in
-          let next : suc m + 1 ≡ 2 * ((suc m - 1) / 2) + 2 = omega arith in
-          root_odd sum ((suc m - 1) / 2) (subst (λ k. k * k ≤ 8 * sum + 1) r low) (subst (λ k. 8 * sum + 1 < k * k) next high)
-      | inr odd ↦
-          let r : suc m ≡ 2 * ((suc m - 1) / 2) + 2 = omega arith in
-          let next : suc m + 1 ≡ 2 * ((suc m - 1) / 2) + 3 = omega arith in
-          root_even sum ((suc m - 1) / 2) (subst (λ k. k * k ≤ 8 * sum + 1) r low) (subst (λ k. 8 * sum + 1 < k * k) next high)
-    ]
 
 pub half_product : (n : ℕ) → n * (n + 1) / 2 ≡ sum_to n
 half_product n = let twice = twice_sum_to n in omega arith

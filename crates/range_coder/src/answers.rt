@@ -170,7 +170,12 @@ fn root_of_sum(sum: u32) -> u32
     ensures high { 2 * sum < (result + 1) * (result + 2) }
     ensures most { result < 2 ^ 8 }
 {
-    ((8 * sum + 1).isqrt() - 1) / 2
+    let root = u32::from(((2 * sum) as u16).isqrt());
+    if root * (root + 1) <= 2 * sum {
+        root
+    } else {
+        root - 1
+    }
 }
 
 /// A number from 0 to `most`: one more for each up to the middle, and one less for each behind it.
