@@ -5,3 +5,4 @@ pub mod Narrowing
 pub mod PaceSteps
 pub mod Rows
 pub mod Unread
+pub mod Writing

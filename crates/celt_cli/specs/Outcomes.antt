@@ -1,5 +1,5 @@
 -- The status that a limit and the bytes of the input give, and what each status says of the output.
-use Rattle.std.specs.Prelude.{◌≡◌, ℕ, Bool, true, false, List, length, take, Option, None, Some, nat_lt, ⊤}
+use Rattle.std.specs.Prelude.{◌≡◌, ℕ, Bool, true, false, List, length, take, Option, None, Some, nat_lt, ⊤, Result, Ok, Err}
 use Rattle.std.specs.Io.KnownBytes.{Appends}
 use Rattle.celt_base.specs.declared.status.Fault.{Fault}
 use Rattle.celt_base.specs.declared.status.FaultName.{FaultName}
@@ -56,3 +56,23 @@ Writes limit bytes old new statuses.Usage = AppendsFront old new (full bytes)
 Writes limit bytes old new statuses.ReadFault = AppendsFront old new (full bytes)
 Writes limit bytes old new statuses.WriteFault = AppendsFront old new (full bytes)
 Writes limit bytes old new statuses.NoMemory = AppendsFront old new (full bytes)
+
+-- The pages of the bytes were decoded to their end, with this fault.
+pub record Ended (bytes : List ℕ) (old now : Option (List ℕ)) (fault : Option Fault) : Type 0 where
+  pub fault_is : fault ≡ fault_of bytes
+  pub added : Appends old now (full bytes)
+
+-- Where the output failed, a front of the samples was added.
+abbrev pub Decodes : {E : Type 0} → List ℕ → Option (List ℕ) → Option (List ℕ) → Result (Option Fault) E → Type 0
+Decodes bytes old now (Ok fault) = Ended bytes old now fault
+Decodes bytes old now (Err failure) = AppendsFront old now (full bytes)
+
+-- What was added to the output, said of the first bytes alone.
+abbrev pub WritesFirst : List ℕ → Option (List ℕ) → Option (List ℕ) → Status → Type 0
+WritesFirst first old new statuses.Done = Appends old new (full first)
+WritesFirst first old new (statuses.Refused fault) = Appends old new (full first)
+WritesFirst first old new statuses.InputTooLong = Appends old new (full first)
+WritesFirst first old new statuses.Usage = AppendsFront old new (full first)
+WritesFirst first old new statuses.ReadFault = AppendsFront old new (full first)
+WritesFirst first old new statuses.WriteFault = AppendsFront old new (full first)
+WritesFirst first old new statuses.NoMemory = AppendsFront old new (full first)

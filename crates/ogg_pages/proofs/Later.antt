@@ -1,10 +1,10 @@
 -- No later byte changes a page or a fault.
-use Rattle.std.proofs.Common.{◌≡◌, ℕ, zero, suc, ◌+◌, ◌*◌, ◌<◌, ◌≤◌, List, [], ◌∷◌, ◌++◌, length, get_or, take, drop, sum, Bool, true, false, not, nat_lt, refl, sym, ◌∙◌, ap, arith, length-append, ◌⊎◌, inl, inr}
+use Rattle.std.proofs.Common.{◌≡◌, ℕ, zero, suc, ◌<◌, ◌≤◌, List, [], ◌∷◌, ◌++◌, length, take, Bool, true, false, not, nat_lt, refl, sym, ◌∙◌, ap, arith, length-append, ◌⊎◌, inl, inr}
 use Rattle.std.specs.Prelude.{◌==◌, ◌&&◌, slice_index, nat_eq, if◌then◌else◌}
 use Rattle.std.specs.List.{starts_with}
 use lib.Pointwise.{pointwise}
 use Rattle.std.proofs.lemmas.List.{take-append-le, get_or_append_left, get_or_past}
-use Rattle.std.proofs.lemmas.Bool.{cases_lt, cases_Bool, eqb-false, eqb-true, eq-eqb, ltb-false, le-ltb}
+use Rattle.std.proofs.lemmas.Bool.{cases_lt, cases_Bool, eqb-false, ltb-false, le-ltb}
 use Rattle.ogg_pages.specs.declared.page.Verdict.{Verdict}
 use Rattle.ogg_pages.specs.declared.page.Verdict.TheVariants.{Whole, Need, Fault}
 use Rattle.ogg_pages.specs.declared.page.PageFault.{PageFault}
@@ -12,7 +12,6 @@ use Rattle.ogg_pages.specs.declared.page.PageFault.TheVariants.{BadCapture, BadP
 use Rattle.ogg_pages.specs.Bounds.{page_len}
 use Rattle.ogg_pages.specs.Fields.{page_of}
 use Rattle.ogg_pages.specs.Verdicts.{capture, captures, summed, verdict}
-use Rattle.ogg_pages.specs.Sound.{IsSound}
 use Rattle.ogg_pages.proofs.Judged.{sound_of, of_sound, page_len-append}
 
 -- a front of n items that differs stays one that differs

@@ -1,6 +1,12 @@
+pub mod ByteLists
+pub mod Joined
 pub mod Judged
+pub mod Laced
 pub mod Later
 pub mod Lengths
+pub mod Readings
 pub mod Register
+pub mod Remainders
+pub mod Spelled
 pub mod Streams
 pub mod Written

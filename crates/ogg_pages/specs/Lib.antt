@@ -1,6 +1,8 @@
 pub mod Bounds
 pub mod Checksum
 pub mod Fields
+pub mod Lacings
+pub mod Remainder
 pub mod Sound
 pub mod Spelling
 pub mod Steps

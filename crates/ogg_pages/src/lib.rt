@@ -2,7 +2,10 @@
 #![tactic(auto)]
 
 pub mod checksum;
+pub mod laws;
 pub mod page;
 pub mod reader;
+#[cfg(test)]
+mod tests;
 pub mod view;
 pub mod writer;

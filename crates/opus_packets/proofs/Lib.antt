@@ -1,0 +1,11 @@
+pub mod Codings
+pub mod Cuts
+pub mod FormsFound
+pub mod FormsRead
+pub mod Groups
+pub mod Headers
+pub mod HeadsSpelled
+pub mod Parts
+pub mod Spellings
+pub mod Sums
+pub mod Written

@@ -1,0 +1,4 @@
+pub mod Cut
+pub mod Form
+pub mod Header
+pub mod Packet
