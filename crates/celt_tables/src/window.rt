@@ -1,6 +1,7 @@
 //! The window of the transform (RFC 6716, section 4.3.7).
 
-/// The rising half of the window (Q15). Index order: the sample. The standard's window, in whole numbers.
+/// The rising half of the window (Q15), sin(pi/2 sin^2(pi/2 (k + 1/2) / 120)) rounded, at most 32767. Index order: the
+/// sample k.
 pub const WINDOW: [u16; 120] = [
     2, 20, 55, 108, 178, 266, 372, 494, 635, 792, 966, 1157, 1365, 1590, 1831, 2089, 2362, 2651,
     2956, 3276, 3611, 3961, 4325, 4703, 5094, 5499, 5916, 6346, 6788, 7241, 7705, 8179, 8663, 9156,

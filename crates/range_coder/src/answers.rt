@@ -41,6 +41,7 @@ fn read_bit(window: Window, frame: &[u8], p: u32) -> (u32, Window)
     window.take_bit(frame, p)
 }
 
+/// The total of a table.
 fn total_of(table: TableId) -> u32
     ensures value { result ≡ total_of table }
     ensures some { 1 ≤ result }
@@ -53,6 +54,7 @@ fn total_of(table: TableId) -> u32
     }
 }
 
+/// The length of a place in a table.
 fn length_of(table: TableId, place: u32) -> u32
     requires { place < answers_of table }
     ensures value { result ≡ (table_row table).len place }
@@ -69,8 +71,11 @@ fn length_of(table: TableId, place: u32) -> u32
 /// An answer with the part that it has.
 #[derive(Clone, Copy, Debug)]
 struct Place {
+    /// The answer, counted from 0.
     answer: u32,
+    /// Where its part begins.
     from: u32,
+    /// Where its part ends: the first place behind it.
     to: u32,
 }
 

@@ -40,8 +40,8 @@ impl<'a> Reader<'a> {
         }
     }
 
-    /// The answer of a question: the one whose part holds the frame's number. What is wanted is passed over. A reader
-    /// may be asked 4096 questions.
+    /// The answer of a question: the one whose part holds the frame's number; raw bits come from the end of the frame and
+    /// are 0 past its front. What is wanted is passed over. A reader may be asked 4096 questions.
     pub fn ask(&mut self, question: Question, _want: i64) -> i64
         requires valid { IsValid question }
         requires few { reader_count self.old < 4096 }
