@@ -1,4 +1,6 @@
+pub mod Below
 pub mod Causes
+pub mod Fillings
 pub mod Narrowing
 pub mod PaceSteps
 pub mod Rows

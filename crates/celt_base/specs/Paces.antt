@@ -2,10 +2,9 @@
 -- section 4.1.6). The bits that were used are told in whole bits or in eighths.
 use Rattle.std.specs.Prelude.{ℕ, ◌+◌, ◌-◌, ◌*◌, ◌/◌, ◌^◌, ℤ, nat_lt, if◌then◌else◌}
 use Rattle.std.specs.List.{fold}
-use Rattle.std.specs.Int.{leading_zeros, w32}
 use Rattle.celt_base.specs.declared.question.Question.{Question}
 use Rattle.celt_base.specs.Intervals.{Part, Symbol, InPart, InBits, Interval, depth}
-use Rattle.celt_base.specs.Questions.{steps}
+use Rattle.celt_base.specs.Questions.{steps, bit_length}
 
 pub record Pace : Type 0 where
   pub width : ℕ
@@ -28,10 +27,6 @@ after_pace pace (InBits count number) = record pace { bits = pace.bits + count }
 -- The pace after an answer of a question.
 unfoldable pub paced : Question → ℤ → Pace → Pace
 paced question answer pace = fold after_pace pace (steps question answer)
-
--- The number of bits that a number below 2^32 needs (RFC 6716, section 1.1.10).
-abbrev pub bit_length : ℕ → ℕ
-bit_length n = 32 - leading_zeros w32 n
 
 -- The whole bits used so far, rounded up (RFC 6716, section 4.1.6.1).
 unfoldable pub tell_of : Pace → ℕ

@@ -3,6 +3,7 @@
 #![tactic(auto)]
 
 pub mod kind;
+pub mod laws;
 pub mod memory;
 pub mod outside;
 pub mod question;

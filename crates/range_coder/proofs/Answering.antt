@@ -1,28 +1,53 @@
 -- The answers of a frame are determined, and the answer of a bit is computed.
-use Rattle.std.proofs.Common.{◌≡◌, ℕ, zero, suc, ◌+◌, ◌-◌, ◌/◌, ◌^◌, ◌<◌, ◌≤◌, true, false, nat_lt, if◌then◌else◌, List, [], ◌∷◌, map, ℤ, pos, negsuc, refl, sym, ap, ◌∙◌, subst, arith}
+use Rattle.std.proofs.Common.{◌≡◌, ℕ, zero, suc, ◌+◌, ◌-◌, ◌*◌, ◌/◌, ◌^◌, ◌<◌, ◌≤◌, min, true, false, nat_lt, if◌then◌else◌, List, [], ◌∷◌, map, ℤ, pos, negsuc, refl, sym, ap, ◌∙◌, subst, arith}
 use Rattle.std.proofs.lemmas.Bool.Decides.{nat_tests}
 use Rattle.celt_base.specs.declared.question.Question.{Question}
 use Rattle.celt_base.specs.declared.question.Question.TheVariants.{Bit, Table, Uniform, Laplace, Step, Triangle, Raw}
 use Rattle.celt_base.specs.Intervals.{Interval, whole, narrowed}
-use Rattle.celt_base.specs.Questions.{Answered, part_of, bit_row, after_answer, interval_of}
-use Rattle.range_coder.specs.FrameBits.{head}
-use Rattle.range_coder.specs.Reading.{Holds, Answers, AnswersFrom, bit_of, first_bit}
+use Rattle.celt_base.specs.Questions.{Row, Answered, IsBelow, part_of, part_steps, raw_steps, bit_row, table_row, answers_of, uniform_row, low_bits, laplace_row, place_of, step_row, triangle_row, after_answer, interval_of}
+use Rattle.celt_base.proofs.Fillings.{place_of_one}
+use Rattle.range_coder.specs.FrameBits.{head, tail}
+use Rattle.range_coder.specs.Reading.{Holds, AreRead, IsNumberRead, Answers, AnswersFrom, bit_of, first_bit}
 use Rattle.range_coder.proofs.Parts.{one_is_cut, zero_is_cut, place_determined}
 
-bit_determined : (frame : List ℕ) (i : Interval) (p : ℕ) (a b : ℤ) → Answers frame i (Bit p) a → Answers frame i (Bit p) b → a ≡ b
-bit_determined frame i p (pos m) (pos n) first second = ap pos (place_determined frame i (bit_row p) m n first.read.0 second.read.0)
-bit_determined frame i p (pos m) (negsuc n) first second = absurd second.is_answer
-bit_determined frame i p (negsuc m) b first second = absurd first.is_answer
+-- one part of a row holds the number
+row_determined : (frame : List ℕ) (i : Interval) (row : Row) (m n : ℤ) (first_count second_count : ℕ) → IsBelow first_count m → IsBelow second_count n
+    → AreRead frame i (part_steps row m) → AreRead frame i (part_steps row n) → m ≡ n
+row_determined frame i row (pos m) (pos n) a b below less first second = ap pos (place_determined frame i row m n first.0 second.0)
+row_determined frame i row (pos m) (negsuc n) a b below less first second = absurd less
+row_determined frame i row (negsuc m) n a b below less first second = absurd below
+
+raw_determined : (frame : List ℕ) (i : Interval) (count : ℕ) (m n : ℤ) → IsBelow (2 ^ count) m → IsBelow (2 ^ count) n
+    → AreRead frame i (raw_steps count m) → AreRead frame i (raw_steps count n) → m ≡ n
+raw_determined frame i count (pos m) (pos n) below less first second = ap pos (sym first.0 ∙ second.0)
+raw_determined frame i count (pos m) (negsuc n) below less first second = absurd less
+raw_determined frame i count (negsuc m) n below less first second = absurd below
+
+-- the tops agree, and then the low bits and the last number decide
+number_determined : (frame : List ℕ) (i : Interval) (limit : ℕ) (m n : ℤ) → IsNumberRead frame i limit m → IsNumberRead frame i limit n → m ≡ n
+number_determined frame i limit (pos m) (pos n) first second =
+    let unit = 2 ^ low_bits limit in
+    let same : m / unit ≡ n / unit = place_determined frame i (uniform_row limit) (m / unit) (n / unit) first.top second.top in
+    ap pos (first.number ∙ ap (λ k. min (limit - 1) (k * unit + tail frame i.raw (low_bits limit))) same ∙ sym second.number)
+number_determined frame i limit (pos m) (negsuc n) first second = absurd second
+number_determined frame i limit (negsuc m) n first second = absurd first
+
+laplace_determined : (frame : List ℕ) (i : Interval) (fs decay : ℕ) (a b : ℤ) → Answers frame i (Laplace fs decay) a → Answers frame i (Laplace fs decay) b → a ≡ b
+laplace_determined frame i fs decay a b first second =
+    place_of_one a b (place_determined frame i (laplace_row fs decay) (place_of a) (place_of b) first.read.0 second.read.0)
 
 -- a frame has at most one answer of a question
 pub answer_determined : (frame : List ℕ) (i : Interval) (q : Question) (a b : ℤ) → Answers frame i q a → Answers frame i q b → a ≡ b
-answer_determined frame i (Bit p) a b first second = bit_determined frame i p a b first second
-answer_determined frame i (Table t) a b first second = absurd first.is_answer
-answer_determined frame i (Uniform n) a b first second = absurd first.is_answer
-answer_determined frame i (Laplace fs decay) a b first second = absurd first.is_answer
-answer_determined frame i (Step n) a b first second = absurd first.is_answer
-answer_determined frame i (Triangle n) a b first second = absurd first.is_answer
-answer_determined frame i (Raw n) a b first second = absurd first.is_answer
+answer_determined frame i (Bit p) a b first second = row_determined frame i (bit_row p) a b 2 2 first.is_answer second.is_answer first.read second.read
+answer_determined frame i (Table t) a b first second =
+    row_determined frame i (table_row t) a b (answers_of t) (answers_of t) first.is_answer second.is_answer first.read second.read
+answer_determined frame i (Uniform limit) a b first second = number_determined frame i limit a b first.read second.read
+answer_determined frame i (Laplace fs decay) a b first second = laplace_determined frame i fs decay a b first second
+answer_determined frame i (Step most) a b first second =
+    row_determined frame i (step_row most) a b (most + 1) (most + 1) first.is_answer second.is_answer first.read second.read
+answer_determined frame i (Triangle most) a b first second =
+    row_determined frame i (triangle_row most) a b (most + 1) (most + 1) first.is_answer second.is_answer first.read second.read
+answer_determined frame i (Raw count) a b first second = raw_determined frame i count a b first.is_answer second.is_answer first.read second.read
 
 -- and at most one list of answers of the same questions
 pub reading_determined : (frame : List ℕ) (i : Interval) (first second : List Answered)

@@ -2,7 +2,7 @@
 use Rattle.std.proofs.Common.{◌≡◌, ℕ, suc, ◌+◌, ◌-◌, ◌*◌, ◌/◌, ◌%◌, List, slice_index, refl, add-one, arith}
 use Rattle.range_coder.specs.FrameBits.{front, head}
 
-front_more : (frame : List ℕ) (count : ℕ) → front frame (suc count) ≡ front frame count * 256 + slice_index frame count
+pub front_more : (frame : List ℕ) (count : ℕ) → front frame (suc count) ≡ front frame count * 256 + slice_index frame count
 unfolding front
 front_more frame count = refl
 

@@ -3,7 +3,8 @@ use Rattle.std.proofs.Common.{◌≡◌, ℕ, zero, suc, ◌+◌, ◌-◌, ◌*�
 use Rattle.std.proofs.lemmas.Bool.{cases_lt}
 use Rattle.std.proofs.lemmas.Nat.{leading_top, mul-le, pow-add, le-div, div_below, pow_pos}
 use Rattle.std.proofs.Math.Nat.{pow-le-pow_right}
-use Rattle.celt_base.specs.Paces.{bit_length, square_of, digit_of, leading_after}
+use Rattle.celt_base.specs.Paces.{square_of, digit_of, leading_after}
+use Rattle.celt_base.specs.Questions.{bit_length}
 
 -- the square of 16 leading bits, without its lowest 15
 pub record IsSquare (square : ℕ) : Type 0 where

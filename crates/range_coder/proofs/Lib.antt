@@ -1,7 +1,12 @@
 pub mod Answering
 pub mod Bits
+pub mod Cuts
 pub mod Digits
 pub mod FrameLaws
+pub mod LaplaceWalk
 pub mod Longer
 pub mod Parts
 pub mod Showing
+pub mod Sums
+pub mod Tails
+pub mod Taking

@@ -9,6 +9,11 @@ use Rattle.celt_base.proofs.Rows.{start_rises}
 use Rattle.range_coder.specs.Reading.{Holds}
 use Rattle.range_coder.specs.Windows.{IsCut}
 
+pub bit_total : (p : ℕ) → 1 ≤ p → p ≤ 15 → (2 ≤ 2 ^ p) × (2 ^ p ≤ 2 ^ 15)
+bit_total p some most =
+    let two : 2 ^ 1 ≤ 2 ^ p = pow-le-pow_right {n = 2} (omega arith) some in
+    (omega arith, pow-le-pow_right {n = 2} (omega arith) most)
+
 -- the place between 0 and 1, one below the total
 bit_middle : (width p : ℕ) → 1 ≤ p → width / 2 ^ p ≡ depth width (2 ^ p) (start (bit_row p) 1)
 bit_middle width p some =

@@ -1,21 +1,34 @@
 //! Laws of intervals, parts and answers, for every list of questions with answers. Each is the clause of a function that
 //! does nothing.
-ghost use Rattle.std.specs.Prelude.{◌≡◌, ℕ, ◌+◌, ◌-◌, ◌*◌, ◌/◌, ◌^◌, ◌<◌, ◌≤◌, List, [], map, slice_index, ℤ, pos};
+ghost use Rattle.std.specs.Prelude.{◌≡◌, ℕ, ◌+◌, ◌-◌, ◌*◌, ◌/◌, ◌%◌, ◌^◌, ◌<◌, ◌≤◌, List, [], ◌∷◌, ◌++◌, length, map, slice_index, ℤ, pos};
 ghost use Rattle.celt_base.specs.declared.question.Question.{Question};
 ghost use Rattle.celt_base.specs.declared.question.Question.TheVariants.{Bit};
 ghost use Rattle.celt_base.specs.Intervals.{Interval, whole, narrowed};
-ghost use Rattle.celt_base.specs.Questions.{Answered, Fills, bit_row, interval_of};
+ghost use Rattle.celt_base.specs.Questions.{Answered, interval_of};
 ghost use Rattle.celt_base.specs.Paces.{pace_of};
 ghost use Rattle.range_coder.specs.declared.reader.Reader.{Reader};
-ghost use Rattle.range_coder.specs.FrameBits.{head, bit_at};
+ghost use Rattle.range_coder.specs.FrameBits.{head, tail, bit_at};
 ghost use Rattle.range_coder.specs.Reading.{Answers, AnswersFrom, bit_of, first_bit};
-ghost use Rattle.range_coder.specs.Readers.{StandsFor, reader_pace, reader_count};
+ghost use Rattle.range_coder.specs.Readers.{StandsFor, Reads, reader_pace, reader_count};
 
 /// The head of a frame is the number of its first bits, most significant first (RFC 6716, section 4.1).
 pub fn law_head()
     ensures none { (frame : List ℕ) → slice_index frame 0 < 256 → head frame 0 ≡ 0 }
     ensures more { (frame : List ℕ) (bits : ℕ) → ((k : ℕ) → slice_index frame k < 256)
         → head frame (bits + 1) ≡ 2 * head frame bits + bit_at frame bits }
+{}
+
+/// The tail of a frame is the number of bits from its end, the first one lowest, each byte from its lowest bit on. Past the
+/// front it is 0 (RFC 6716, section 4.1.4).
+pub fn law_tail()
+    ensures none { (frame : List ℕ) (from : ℕ) → tail frame from 0 ≡ 0 }
+    ensures more { (frame : List ℕ) (from count : ℕ)
+        → tail frame from (count + 1) ≡ tail frame from count + 2 ^ count * tail frame (from + count) 1 }
+    ensures bit { (frame : List ℕ) (place low : ℕ) → ((k : ℕ) → slice_index frame k < 256)
+        → place < length frame → low < 8
+        → tail frame (8 * place + low) 1 ≡ slice_index frame (length frame - 1 - place) / 2 ^ low % 2 }
+    ensures past { (frame : List ℕ) (place low : ℕ) → ((k : ℕ) → slice_index frame k < 256)
+        → length frame ≤ place → low < 8 → tail frame (8 * place + low) 1 ≡ 0 }
 {}
 
 /// A part narrows an interval as the standard's two cases say (RFC 6716, sections 4.1.2 and 5.1.1).
@@ -37,11 +50,6 @@ pub fn law_interval_end()
         → (interval_of list).low + (interval_of list).width ≤ 2 ^ (31 + (interval_of list).shift) }
 {}
 
-/// The parts of a bit are not empty and fill the range.
-pub fn law_bit_parts()
-    ensures { (p : ℕ) → 1 ≤ p → Fills (bit_row p) 2 }
-{}
-
 /// The pace of a reader is that of each list that it stands for, and two readers that stand for one list have one pace.
 pub fn law_one_pace()
     ensures pace { (frame : List ℕ) (r : Reader) (list : List Answered) → StandsFor frame r list
@@ -56,6 +64,15 @@ pub fn law_pace_bounds()
         → (2 ^ 23 < (reader_pace r).width) × ((reader_pace r).width ≤ 2 ^ 31) }
     ensures bits { (r : Reader)
         → (33 ≤ (reader_pace r).bits) × ((reader_pace r).bits ≤ 33 + 40 * reader_count r) }
+{}
+
+/// A call of a reader, for every list that the reader stood for: the answer is the frame's, and the reader stands for that
+/// list with the question and the answer.
+pub fn law_reads()
+    ensures { (frame : List ℕ) (list : List Answered) (before now : Reader) (q : Question) (a : ℤ)
+        → Reads before q a now → StandsFor frame before list
+        → StandsFor frame now (list ++ record { question = q; answer = a } ∷ [])
+        × Answers frame (interval_of list) q a }
 {}
 
 /// A frame has at most one answer of a question.

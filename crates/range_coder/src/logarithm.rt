@@ -1,6 +1,7 @@
 //! The logarithm of a width in eighths, which tells how many bits a coder used (RFC 6716, section 4.1.6).
 ghost use Rattle.std.specs.Prelude.{◌≡◌, ◌+◌, ◌*◌, ◌^◌, ◌<◌, ◌≤◌};
-ghost use Rattle.celt_base.specs.Paces.{bit_length, digit_of, leading_after, eighths_from};
+ghost use Rattle.celt_base.specs.Paces.{digit_of, leading_after, eighths_from};
+ghost use Rattle.celt_base.specs.Questions.{bit_length};
 
 /// The number of bits that a number needs.
 pub fn bit_length(number: u32) -> u32

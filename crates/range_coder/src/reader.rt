@@ -3,6 +3,7 @@ ghost use Rattle.std.specs.Prelude.{◌≡◌, ℕ, ◌+◌, ◌*◌, ◌^◌, �
 ghost use Rattle.celt_base.specs.Questions.{Answered, IsValid, IsAnswer};
 ghost use Rattle.celt_base.specs.Paces.{paced, tell_of, tell_frac_of};
 
+use crate::answers::read_answer;
 use crate::logarithm::{bit_length, eighths_from};
 use crate::window::Window;
 use celt_base::question::Question;
@@ -39,8 +40,8 @@ impl<'a> Reader<'a> {
         }
     }
 
-    /// The answer of a question: the one whose part holds the frame's number. What is wanted is passed over. A reader
-    /// may be asked 4096 questions.
+    /// The answer of a question: the one whose part holds the frame's number; raw bits come from the end of the frame and
+    /// are 0 past its front. What is wanted is passed over. A reader may be asked 4096 questions.
     pub fn ask(&mut self, question: Question, _want: i64) -> i64
         requires valid { IsValid question }
         requires few { reader_count self.old < 4096 }
@@ -49,13 +50,10 @@ impl<'a> Reader<'a> {
         ensures pace { reader_pace self.new ≡ paced question result (reader_pace self.old) }
         ensures count { reader_count self.new ≡ reader_count self.old + 1 }
     {
-        let Question::Bit(p) = question else {
-            unreachable!();
-        };
-        let (bit, after) = self.window.read_bit(self.frame, p);
+        let (answer, after) = read_answer(self.window, self.frame, question);
         self.window = after;
         self.asked += 1;
-        i64::from(bit)
+        answer
     }
 
     /// How many bits were used so far, rounded up (RFC 6716, section 4.1.6.1).

@@ -1,6 +1,6 @@
 //! The window through which a reader sees its frame. The standard's decoder keeps the same state (RFC 6716, sections
 //! 4.1.1 and 4.1.2): how far the frame's number is below the last number of the interval, rather than the number.
-ghost use Rattle.std.specs.Prelude.{◌≡◌, ℕ, ◌+◌, ◌*◌, ◌^◌, ◌<◌, ◌≤◌, List, min, slice_index};
+ghost use Rattle.std.specs.Prelude.{◌≡◌, ℕ, ◌+◌, ◌-◌, ◌*◌, ◌^◌, ◌<◌, ◌≤◌, List, length, min, slice_index};
 
 /// The state of a reader over its frame.
 #[derive(Clone, Copy, Debug)]
@@ -28,12 +28,25 @@ fn byte_at(frame: &[u8], place: usize) -> u8
     frame.get(place).copied().unwrap_or(0)
 }
 
+/// A byte counted from the end of the frame; 0 past its front.
+fn byte_from_end(frame: &[u8], place: usize) -> u8
+    ensures inside { place < length frame.now → result ≡ slice_index frame.now (length frame.now - 1 - place) }
+    ensures past { length frame.now ≤ place → result ≡ 0 }
+{
+    if place < frame.len() {
+        frame[frame.len() - 1 - place]
+    } else {
+        0
+    }
+}
+
 impl Window {
-    ghost use Rattle.celt_base.specs.Intervals.{Part, Interval, InPart, whole, narrowed, grown, after};
+    ghost use Rattle.celt_base.specs.Intervals.{Part, Interval, InPart, InBits, whole, depth, narrowed, grown, after};
     ghost use Rattle.celt_base.specs.Paces.{narrowed_pace, grown_pace, after_pace};
     ghost use Rattle.celt_base.specs.Questions.{bit_row, part_of};
     ghost use Rattle.range_coder.specs.Reading.{Holds};
-    ghost use Rattle.range_coder.specs.Windows.{IsCut, Shows, window_pace};
+    ghost use Rattle.range_coder.specs.FrameBits.{tail};
+    ghost use Rattle.range_coder.specs.Windows.{IsCut, Shows, window_pace, value_of, TakesPart};
 
     /// The window at the start of a frame: four bytes are taken.
     pub fn new(frame: &[u8]) -> Window
@@ -66,6 +79,7 @@ impl Window {
             → Shows frame self i → Holds frame (narrowed part i) }
         ensures pace { (part : Part) → IsCut self.width part lower upper
             → window_pace result ≡ narrowed_pace part (window_pace self) }
+        ensures width { result.width ≡ lower - upper }
         ensures bits { result.bits ≡ self.bits }
     {
         Window {
@@ -84,6 +98,7 @@ impl Window {
         ensures pace { window_pace result ≡ grown_pace (window_pace self) }
         ensures wider { min (2 ^ 23 + 1) (self.width * 256) ≤ result.width }
         ensures bits { result.bits ≤ self.bits + 8 }
+        ensures stays { 2 ^ 23 < self.width → result.bits ≡ self.bits }
     {
         if self.width > 1 << 23 {
             return self;
@@ -99,40 +114,112 @@ impl Window {
         }
     }
 
-    /// Takes bytes until the width is above 2^23.
+    /// Takes bytes until the width is above 2^23: at most two of them, as no part is narrower than 2^8.
     fn grow_wide(self, frame: &[u8]) -> Window
-        requires { self.bits < 2 ^ 30 }
+        requires least { 2 ^ 8 ≤ self.width }
+        requires bits { self.bits < 2 ^ 30 }
         ensures shows { (i : Interval) → Shows frame.now self i
             → Shows frame.now result (grown (grown (grown i))) }
         ensures pace { window_pace result ≡ grown_pace (grown_pace (grown_pace (window_pace self))) }
         ensures wide { 2 ^ 23 < result.width }
-        ensures bits { result.bits ≤ self.bits + 24 }
+        ensures bits { result.bits ≤ self.bits + 16 }
     {
         self.grow(frame).grow(frame).grow(frame)
     }
 
-    /// The answer of Bit(p), and the window after it. No division is needed: its parts meet at `width >> p` below the
-    /// upper end.
-    pub fn read_bit(self, frame: &[u8], p: u32) -> (u32, Window)
+    /// How far a place of the total lies below the upper end of the interval.
+    fn depth_at(self, place: u32, total: u32) -> u32
+        requires { place ≤ total }
+        ensures value { result ≡ depth self.width total place }
+        ensures within { result ≤ self.width }
+    {
+        if place == 0 {
+            self.width
+        } else {
+            self.width / total * (total - place)
+        }
+    }
+
+    /// The place of the total at which the frame's number lies.
+    pub fn value_of(self, total: u32) -> u32
+        requires some { 1 ≤ total }
+        requires most { total ≤ 2 ^ 15 }
+        requires wide { 2 ^ 23 < self.width }
+        ensures value { result ≡ value_of self total }
+        ensures below { result < total }
+    {
+        total - (self.distance / (self.width / total) + 1).min(total)
+    }
+
+    /// The window after the part from `from` up to and without `to`, in which the frame's number lies.
+    pub fn take_part(self, frame: &[u8], from: u32, to: u32, total: u32) -> Window
+        requires above { from ≤ value_of self total }
+        requires below { value_of self total < to }
+        requires within { to ≤ total }
+        requires most { total ≤ 2 ^ 15 }
+        requires wide { 2 ^ 23 < self.width }
+        requires bits { self.bits < 2 ^ 30 }
+        ensures takes { TakesPart frame.now self (record { from = from; to = to; total = total }) result }
+        ensures wide { 2 ^ 23 < result.width }
+        ensures grown { result.bits ≤ self.bits + 16 }
+    {
+        let lower = self.depth_at(from, total);
+        let upper = self.depth_at(to, total);
+        self.narrow(lower, upper).grow_wide(frame)
+    }
+
+    /// The part of a bit's answer, and the window after it. No division is needed: the parts meet at `width >> p` below
+    /// the upper end.
+    pub fn take_bit(self, frame: &[u8], p: u32) -> (u32, Window)
         requires some { 1 ≤ p }
         requires most { p ≤ 15 }
         requires wide { 2 ^ 23 < self.width }
         requires bits { self.bits < 2 ^ 30 }
         ensures bit { result.0 < 2 }
-        ensures holds { (i : Interval) → Shows frame.now self i
-            → Holds frame.now (narrowed (part_of (bit_row p) result.0) i) }
-        ensures shows { (i : Interval) → Shows frame.now self i
-            → Shows frame.now result.1 (after i (InPart (part_of (bit_row p) result.0))) }
-        ensures pace { window_pace result.1
-            ≡ after_pace (window_pace self) (InPart (part_of (bit_row p) result.0)) }
+        ensures takes { TakesPart frame.now self (part_of (bit_row p) result.0) result.1 }
         ensures wide { 2 ^ 23 < result.1.width }
-        ensures grown { result.1.bits ≤ self.bits + 24 }
+        ensures grown { result.1.bits ≤ self.bits + 16 }
     {
         let upper = self.width >> p;
         if self.distance < upper {
             (1, self.narrow(upper, 0).grow_wide(frame))
         } else {
             (0, self.narrow(self.width, upper).grow_wide(frame))
+        }
+    }
+
+    /// The number of the next raw bits, the first one lowest (RFC 6716, section 4.1.4).
+    pub fn raw_bits(self, frame: &[u8], count: u32) -> u32
+        requires { count ≤ 24 }
+        ensures value { (i : Interval) → Shows frame.now self i → tail frame.now i.raw count ≡ result }
+        ensures below { result < 2 ^ count }
+    {
+        let raw = self.bits as usize - 1 - 8 * self.taken;
+        let first = raw / 8;
+        let low = u32::from(byte_from_end(frame, first));
+        let second = u32::from(byte_from_end(frame, first + 1));
+        let third = u32::from(byte_from_end(frame, first + 2));
+        let high = u32::from(byte_from_end(frame, first + 3));
+        let word = ((high * 256 + third) * 256 + second) * 256 + low;
+        (word >> (raw % 8)) % (1 << count)
+    }
+
+    /// The window after raw bits.
+    pub fn pass_bits(self, count: u32) -> Window
+        requires count { count ≤ 24 }
+        requires bits { self.bits < 2 ^ 31 }
+        ensures shows { (frame : List ℕ) (i : Interval) (number : ℕ) → Shows frame self i
+            → Shows frame result (after i (InBits count number)) }
+        ensures pace { (number : ℕ) → window_pace result ≡ after_pace (window_pace self) (InBits count number) }
+        ensures width { result.width ≡ self.width }
+        ensures bits { result.bits ≡ self.bits + count }
+    {
+        Window {
+            width: self.width,
+            distance: self.distance,
+            bits: self.bits + count,
+            taken: self.taken,
+            last: self.last,
         }
     }
 }
