@@ -3,3 +3,5 @@ pub mod Narrowing
 pub mod PaceSteps
 pub mod Rows
 pub mod Unread
+pub mod WalkSteps
+pub mod WalkValues

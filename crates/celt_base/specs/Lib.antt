@@ -7,3 +7,7 @@ pub mod Outside
 pub mod Paces
 pub mod Questions
 pub mod Statuses
+pub mod WalkCalls
+pub mod WalkOrders
+pub mod WalkScripts
+pub mod Walks

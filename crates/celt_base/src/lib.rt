@@ -2,6 +2,7 @@
 //! sinks of bytes, gates), the kind of a CELT frame and the questions of its range coder.
 #![tactic(auto)]
 
+pub mod coder;
 pub mod kind;
 pub mod memory;
 pub mod outside;
@@ -10,3 +11,4 @@ pub mod standard;
 pub mod status;
 #[cfg(test)]
 mod tests;
+pub mod walk;
