@@ -5,3 +5,4 @@ pub mod Rows
 pub mod Unread
 pub mod WalkSteps
 pub mod WalkValues
+pub mod WalkOrders

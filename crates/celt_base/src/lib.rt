@@ -4,6 +4,7 @@
 
 pub mod coder;
 pub mod kind;
+mod laws;
 pub mod memory;
 pub mod outside;
 pub mod question;
@@ -12,3 +13,5 @@ pub mod status;
 #[cfg(test)]
 mod tests;
 pub mod walk;
+
+pub use laws::{law_one_list, law_script_count, law_script_order};
