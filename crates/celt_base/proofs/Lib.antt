@@ -4,5 +4,6 @@ pub mod PaceSteps
 pub mod Rows
 pub mod Unread
 pub mod WalkSteps
+pub mod WalkThree
 pub mod WalkValues
 pub mod WalkOrders

@@ -7,19 +7,19 @@ use Rattle.celt_base.specs.declared.question.Question.{Question}
 use Rattle.celt_base.specs.Paces.{Pace, paced}
 use Rattle.celt_base.specs.Questions.{Answered, IsValid, IsAnswer}
 use Rattle.celt_base.specs.WalkScripts.{Script, Done, Look, Ask, Begin, and_then, each, row_of, rows_of, table, asks_at, asks_value_at, asks_bit}
-use Rattle.celt_base.specs.Walks.{Event, Asked, Entered, answers_of, count_of, Adds, done, looked, asked, begun}
+use Rattle.celt_base.specs.Walks.{Event, Asked, Entered, answered_in, count_of, Adds, done, looked, asked, begun}
 use Rattle.celt_base.specs.WalkOrders.{Next, AsksAt, Ends, next, outcome, Follows, InOrder, AtMost, MayGive, Decided}
 
 -- behind what a script adds nothing follows, and the value is its outcome
 pub next_after : {A : Type 0} {script : Script A} {pace : Pace} {events : List Event} {value : A}
-    → Adds script pace events value → next script pace (answers_of events) ≡ Ends
+    → Adds script pace events value → next script pace (answered_in events) ≡ Ends
 next_after done = refl
 next_after (looked x) = next_after x
 next_after (asked valid answer x) = next_after x
 next_after (begun x) = next_after x
 
 pub outcome_after : {A : Type 0} {script : Script A} {pace : Pace} {events : List Event} {value : A}
-    → Adds script pace events value → outcome script pace (answers_of events) ≡ Some value
+    → Adds script pace events value → outcome script pace (answered_in events) ≡ Some value
 outcome_after done = refl
 outcome_after (looked x) = outcome_after x
 outcome_after (asked valid answer x) = outcome_after x
@@ -63,11 +63,11 @@ module _ {A : Type 0} where
 
 -- what a script adds is in its order
 pub in_order : {A : Type 0} {script : Script A} {pace : Pace} {events : List Event} {value : A}
-    → Adds script pace events value → InOrder script pace (answers_of events)
+    → Adds script pace events value → InOrder script pace (answered_in events)
 in_order done = λ front b rest e. absurd (no_front front b rest e)
 in_order (looked x) = in_order x
 in_order (asked {at = at} {question = question} {answer = answer} {follow = follow} {pace = pace} {events = events} valid is_answer x) =
-    asked_in_order at question answer follow pace (answers_of events) is_answer (in_order x)
+    asked_in_order at question answer follow pace (answered_in events) is_answer (in_order x)
 in_order (begun x) = in_order x
 
 some_same : {A : Type 0} {a b : A} → Some a ≡ Some b → a ≡ b
@@ -78,7 +78,7 @@ some_same {A} {a} {b} e =
 pub one_value_of : {A : Type 0} {script : Script A} {pace : Pace} {events more : List Event} {value last : A}
     → Adds script pace events value
     → Adds script pace more last
-    → answers_of events ≡ answers_of more
+    → answered_in events ≡ answered_in more
     → value ≡ last
 one_value_of {script = script} {pace = pace} x y e =
     some_same (sym (outcome_after x) ∙ ap (outcome script pace) e ∙ outcome_after y)

@@ -9,30 +9,30 @@ use Rattle.celt_base.specs.Paces.{Pace, paced}
 use Rattle.celt_base.specs.Questions.{Answered, IsValid, IsAnswer}
 use Rattle.celt_base.specs.WalkCalls.{CoderCalls, ChooserCalls, Call, heard}
 use Rattle.celt_base.specs.WalkScripts.{Script, Done, Look, Ask, Begin, and_then, asks_at, asks_value_at, asks_bit, is_one}
-use Rattle.celt_base.specs.Walks.{Event, Asked, Entered, answers_of, count_of, pace_after, Adds, done, looked, asked, begun, Through, none, called, entered, Walked}
+use Rattle.celt_base.specs.Walks.{Event, Asked, Entered, answered_in, count_of, pace_after, Adds, done, looked, asked, begun, Through, none, called, entered, Walked}
 
-pub answers_append : (events more : List Event) → answers_of (events ++ more) ≡ answers_of events ++ answers_of more
+pub answers_append : (events more : List Event) → answered_in (events ++ more) ≡ answered_in events ++ answered_in more
 answers_append [] more = refl
 answers_append (Asked at question answer ∷ events) more =
     ap (λ list. let a : Answered = record { question = question; answer = answer } in a ∷ list) (answers_append events more)
 answers_append (Entered at ∷ events) more = answers_append events more
 
 pub count_append : (events more : List Event) → count_of (events ++ more) ≡ count_of events + count_of more
-count_append events more = ap length (answers_append events more) ∙ length-append (answers_of events) (answers_of more)
+count_append events more = ap length (answers_append events more) ∙ length-append (answered_in events) (answered_in more)
 
 pace_append : (list more : List Answered) (pace : Pace) → pace_after (list ++ more) pace ≡ pace_after more (pace_after list pace)
 pace_append [] more pace = refl
 pace_append (a ∷ list) more pace = pace_append list more (paced a.question a.answer pace)
 
 pub pace_after_append : (events more : List Event) (pace : Pace)
-    → pace_after (answers_of (events ++ more)) pace ≡ pace_after (answers_of more) (pace_after (answers_of events) pace)
+    → pace_after (answered_in (events ++ more)) pace ≡ pace_after (answered_in more) (pace_after (answered_in events) pace)
 pace_after_append events more pace =
-    ap (λ list. pace_after list pace) (answers_append events more) ∙ pace_append (answers_of events) (answers_of more) pace
+    ap (λ list. pace_after list pace) (answers_append events more) ∙ pace_append (answered_in events) (answered_in more) pace
 
 -- what one script adds and then the next
 pub adds_then : {A B : Type 0} {script : Script A} {pace : Pace} {events : List Event} {value : A} (next : A → Script B) {more : List Event} {last : B}
     → Adds script pace events value
-    → Adds (next value) (pace_after (answers_of events) pace) more last
+    → Adds (next value) (pace_after (answered_in events) pace) more last
     → Adds (and_then script next) pace (events ++ more) last
 adds_then next done y = y
 adds_then next (looked x) y = looked (adds_then next x y)
@@ -42,7 +42,7 @@ adds_then next (begun x) y = begun (adds_then next x y)
 -- the same before what follows both
 pub adds_within : {A B D : Type 0} {script : Script A} {pace : Pace} {events : List Event} {value : A} (next : A → Script B) (rest : B → Script D) {more : List Event} {last : D}
     → Adds script pace events value
-    → Adds (and_then (next value) rest) (pace_after (answers_of events) pace) more last
+    → Adds (and_then (next value) rest) (pace_after (answered_in events) pace) more last
     → Adds (and_then (and_then script next) rest) pace (events ++ more) last
 adds_within next rest done y = y
 adds_within next rest (looked x) y = looked (adds_within next rest x y)
@@ -65,7 +65,7 @@ pub record Going {C H A : Type 0} (coder : CoderCalls C) (chooser : ChooserCalls
       → Adds left (coder.pace d) more value
       → Adds script (coder.pace c) (events ++ more) value
   pub through : Through coder chooser events c h d k
-  pub pace : coder.pace d ≡ pace_after (answers_of events) (coder.pace c)
+  pub pace : coder.pace d ≡ pace_after (answered_in events) (coder.pace c)
   pub count : coder.count d ≡ coder.count c + count_of events
 
 joined_count : (events more : List Event) (c d e : ℕ)
@@ -75,11 +75,11 @@ joined_count : (events more : List Event) (c d e : ℕ)
 joined_count events more c d e first second = let n = count_append events more in omega arith
 
 joined_pace : (events more : List Event) (first middle last : Pace)
-    → middle ≡ pace_after (answers_of events) first
-    → last ≡ pace_after (answers_of more) middle
-    → last ≡ pace_after (answers_of (events ++ more)) first
+    → middle ≡ pace_after (answered_in events) first
+    → last ≡ pace_after (answered_in more) middle
+    → last ≡ pace_after (answered_in (events ++ more)) first
 joined_pace events more first middle last to_middle to_last =
-    to_last ∙ ap (λ pace. pace_after (answers_of more) pace) to_middle ∙ sym (pace_after_append events more first)
+    to_last ∙ ap (λ pace. pace_after (answered_in more) pace) to_middle ∙ sym (pace_after_append events more first)
 
 module _ {C H : Type 0} {coder : CoderCalls C} {chooser : ChooserCalls H} where
   -- at the start
@@ -221,3 +221,29 @@ module _ {C H : Type 0} {coder : CoderCalls C} {chooser : ChooserCalls H} where
       → Walked coder chooser (asks_bit at p) (is_one answer) c h d k
   unfolding asks_bit
   one_bit at p w = end (walk (λ answer. Done (is_one answer)) start w)
+
+-- What an asking script added, taken apart.
+pub record Answering {A : Type 0} (at : Place) (question : Question) (follow : ℤ → Script A) (pace : Pace) (events : List Event) (value : A) : Type 0 where
+  pub answer : ℤ
+  pub rest : List Event
+  pub is_valid : IsValid question
+  pub is_answer : IsAnswer question answer
+  pub events_are : events ≡ Asked at question answer ∷ rest
+  pub adds : Adds (follow answer) (paced question answer pace) rest value
+
+pub answering : {A : Type 0} {at : Place} {question : Question} {follow : ℤ → Script A} {pace : Pace} {events : List Event} {value : A}
+    → Adds (Ask at question follow) pace events value
+    → Answering at question follow pace events value
+answering (asked {answer = answer} {events = events} valid is_answer x) = record {
+  answer = answer;
+  rest = events;
+  is_valid = valid;
+  is_answer = is_answer;
+  events_are = refl;
+  adds = x;
+}
+
+pub finished : {A : Type 0} {last : A} {pace : Pace} {events : List Event} {value : A}
+    → Adds (Done last) pace events value
+    → (events ≡ []) × (value ≡ last)
+finished done = (refl, refl)

@@ -6,8 +6,10 @@ pub mod MemorySides
 pub mod Outside
 pub mod Paces
 pub mod Questions
+pub mod States
 pub mod Statuses
 pub mod WalkCalls
 pub mod WalkOrders
 pub mod WalkScripts
+pub mod WalkThree
 pub mod Walks

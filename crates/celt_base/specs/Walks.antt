@@ -14,13 +14,13 @@ pub data Event : Type 0 where
   Entered : Enter → Event
 
 -- The questions with their answers alone.
-abbrev pub answers_of : List Event → List Answered
-answers_of [] = []
-answers_of (Asked at question answer ∷ events) = record { question = question; answer = answer } ∷ answers_of events
-answers_of (Entered at ∷ events) = answers_of events
+abbrev pub answered_in : List Event → List Answered
+answered_in [] = []
+answered_in (Asked at question answer ∷ events) = record { question = question; answer = answer } ∷ answered_in events
+answered_in (Entered at ∷ events) = answered_in events
 
 abbrev pub count_of : List Event → ℕ
-count_of events = length (answers_of events)
+count_of events = length (answered_in events)
 
 -- The pace after a list of questions with answers.
 abbrev pub pace_after : List Answered → Pace → Pace
@@ -61,5 +61,5 @@ pub record Walked {C H A : Type 0} (coder : CoderCalls C) (chooser : ChooserCall
   pub events : List Event
   pub adds : Adds script (coder.pace c) events value
   pub through : Through coder chooser events c h d k
-  pub pace : coder.pace d ≡ pace_after (answers_of events) (coder.pace c)
+  pub pace : coder.pace d ≡ pace_after (answered_in events) (coder.pace c)
   pub count : coder.count d ≡ coder.count c + count_of events

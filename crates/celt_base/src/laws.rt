@@ -4,17 +4,17 @@ ghost use Rattle.celt_base.specs.Paces.{Pace};
 ghost use Rattle.celt_base.specs.Questions.{Answered};
 ghost use Rattle.celt_base.specs.WalkOrders.{Ends, next, outcome, InOrder, AtMost, MayGive, Decided};
 ghost use Rattle.celt_base.specs.WalkScripts.{Script, and_then, table};
-ghost use Rattle.celt_base.specs.Walks.{Event, Adds, answers_of, count_of};
+ghost use Rattle.celt_base.specs.Walks.{Event, Adds, answered_in, count_of};
 ghost use Rattle.celt_base.specs.declared.question.Question.{Question};
 
 /// What a script adds is in its order, nothing follows it, and its answers decide the value.
 pub fn law_script_order<A>()
     ensures order { (script : Script A) (pace : Pace) (events : List Event) (value : A)
-        → Adds script pace events value → InOrder script pace (answers_of events) }
+        → Adds script pace events value → InOrder script pace (answered_in events) }
     ensures ends { (script : Script A) (pace : Pace) (events : List Event) (value : A)
-        → Adds script pace events value → next script pace (answers_of events) ≡ Ends }
+        → Adds script pace events value → next script pace (answered_in events) ≡ Ends }
     ensures value { (script : Script A) (pace : Pace) (events : List Event) (value : A)
-        → Adds script pace events value → outcome script pace (answers_of events) ≡ Some value }
+        → Adds script pace events value → outcome script pace (answered_in events) ≡ Some value }
 {
 }
 

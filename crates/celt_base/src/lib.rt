@@ -9,6 +9,7 @@ pub mod memory;
 pub mod outside;
 pub mod question;
 pub mod standard;
+pub mod state;
 pub mod status;
 #[cfg(test)]
 mod tests;

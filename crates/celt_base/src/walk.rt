@@ -4,6 +4,7 @@ ghost use Rattle.std.specs.Prelude.{◌≡◌, ◌+◌, ◌<◌, ◌≤◌};
 ghost use Rattle.celt_base.specs.Questions.{IsValid, IsAnswer};
 ghost use Rattle.celt_base.specs.WalkCalls.{heard, meant, small_value, small_answer, bit_value, bit_answer, coarse_value, coarse_answer, IsHeard};
 ghost use Rattle.celt_base.specs.WalkScripts.{asks_at, asks_value_at, asks_bit};
+ghost use Rattle.celt_base.specs.WalkThree.{first_script, AsksThree};
 ghost use Rattle.celt_base.specs.Walks.{Walked};
 
 use crate::coder::{Chooser, Coder, Place};
@@ -126,4 +127,49 @@ pub fn ask_bit<C: Coder, H: Chooser>(
     ensures count { C.calls.count coder.new ≡ C.calls.count coder.old + 1 }
 {
     ask_at(coder, chooser, at, Question::Bit(p)) == 1
+}
+
+/// The first energy of a frame.
+#[derive(Clone, Copy, Debug, PartialEq, Eq)]
+pub struct FirstEnergy {
+    /// Whether it is coded without the frame before.
+    pub intra: bool,
+    /// The coarse energy.
+    pub coarse: i64,
+    /// The fine energy, a number of so many bits.
+    pub fine: i64,
+}
+
+/// Asks three questions of three kinds: a walk as every walk of a frame's questions is.
+pub fn ask_first_energy<C: Coder, H: Chooser>(
+    coder: &mut C,
+    chooser: &mut H,
+    fs: u32,
+    decay: u32,
+    bits: u32,
+) -> FirstEnergy
+    requires laplace { IsValid (Question.Laplace fs decay) }
+    requires raw { IsValid (Question.Raw bits) }
+    requires few { C.calls.count coder.old + 3 ≤ 4096 }
+    ensures walked { Walked C.calls H.calls (first_script fs decay bits) result coder.old chooser.old coder.new chooser.new }
+    ensures list { AsksThree C.calls H.calls fs decay bits result coder.old chooser.old coder.new chooser.new }
+    ensures count { C.calls.count coder.new ≡ C.calls.count coder.old + 3 }
+{
+    let intra = ask_bit(coder, chooser, Place::Intra, 3);
+    let at = Place::Coarse {
+        band: 0,
+        channel: 0,
+    };
+    let coarse = ask_value_at(coder, chooser, at, Question::Laplace { fs, decay });
+    let at = Place::Fine {
+        band: 0,
+        channel: 0,
+        bits,
+    };
+    let fine = ask_at(coder, chooser, at, Question::Raw(bits));
+    FirstEnergy {
+        intra,
+        coarse,
+        fine,
+    }
 }
