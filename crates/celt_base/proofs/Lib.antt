@@ -3,7 +3,8 @@ pub mod Narrowing
 pub mod PaceSteps
 pub mod Rows
 pub mod Unread
+pub mod WalkOrders
 pub mod WalkSteps
+pub mod WalkTables
 pub mod WalkThree
 pub mod WalkValues
-pub mod WalkOrders

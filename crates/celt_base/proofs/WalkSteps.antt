@@ -7,7 +7,8 @@ use Rattle.celt_base.specs.declared.question.Question.{Question}
 use Rattle.celt_base.specs.declared.question.Question.TheVariants.{Bit}
 use Rattle.celt_base.specs.Paces.{Pace, paced}
 use Rattle.celt_base.specs.Questions.{Answered, IsValid, IsAnswer}
-use Rattle.celt_base.specs.WalkCalls.{CoderCalls, ChooserCalls, Call, heard}
+use Rattle.celt_base.specs.WalkCalls.{CoderCalls, ChooserCalls, Call, heard, meant}
+use Rattle.celt_base.specs.WalkOrders.{Decided}
 use Rattle.celt_base.specs.WalkScripts.{Script, Done, Look, Ask, Begin, and_then, asks_at, asks_value_at, asks_bit, is_one}
 use Rattle.celt_base.specs.Walks.{Event, Asked, Entered, answered_in, count_of, pace_after, Adds, done, looked, asked, begun, Through, none, called, entered, Walked}
 
@@ -97,18 +98,6 @@ module _ {C H : Type 0} {coder : CoderCalls C} {chooser : ChooserCalls H} where
       → Going coder chooser script (Look from) c h d k
       → Going coder chooser script (from (coder.pace d)) c h d k
   look g = record {
-    events = g.events;
-    resumes = λ more value x. g.resumes more value (looked x);
-    through = g.through;
-    pace = g.pace;
-    count = g.count;
-  }
-
-  -- the pace is looked at before what follows
-  pub look_in : {A B : Type 0} {script : Script B} {c d : C} {h k : H} (from : Pace → Script A) (next : A → Script B)
-      → Going coder chooser script (and_then (Look from) next) c h d k
-      → Going coder chooser script (and_then (from (coder.pace d)) next) c h d k
-  look_in from next g = record {
     events = g.events;
     resumes = λ more value x. g.resumes more value (looked x);
     through = g.through;
@@ -247,3 +236,34 @@ pub finished : {A : Type 0} {last : A} {pace : Pace} {events : List Event} {valu
     → Adds (Done last) pace events value
     → (events ≡ []) × (value ≡ last)
 finished done = (refl, refl)
+
+-- Where each call of `ask` makes the list longer that a coder stands for, a walk does so by all it adds; and each answer
+-- is as what stood before decided it.
+module _ {C H : Type 0} {coder : CoderCalls C} {chooser : ChooserCalls H} (Stands : C → List Answered → Type 0)
+    (longer : (c d : C) (question : Question) (wanted answer : ℤ) (list : List Answered)
+      → coder.Asks c question wanted answer d
+      → Stands c list
+      → Stands d (list ++ record { question = question; answer = answer } ∷ [])) where
+  pub stands_after : {events : List Event} {c d : C} {h k : H} (list : List Answered)
+      → Through coder chooser events c h d k
+      → Stands c list
+      → Stands d (list ++ answered_in events)
+  stands_after {c = c} list none s = subst (Stands c) (sym (append-nil list)) s
+  stands_after {d = e} list (called {at = at} {question = question} {answer = answer} {events = events} {c = c} {d = d} call x) s =
+      let a : Answered = record { question = question; answer = answer } in
+      subst (Stands e) (append_assoc list (a ∷ []) (answered_in events))
+      (stands_after (list ++ a ∷ []) x (longer c d question (meant at question call.wanted) answer list call.asks s))
+  stands_after list (entered enter x) s = stands_after list x s
+
+  pub decided_after : (decides : List Answered → Question → ℤ → Type 0)
+      → ((c d : C) (question : Question) (wanted answer : ℤ) (list : List Answered) → coder.Asks c question wanted answer d → Stands c list → decides list question answer)
+      → {events : List Event} {c d : C} {h k : H} (list : List Answered)
+      → Through coder chooser events c h d k
+      → Stands c list
+      → Decided decides (λ before a. before ++ a ∷ []) list (answered_in events)
+  decided_after decides gives list none s = tt
+  decided_after decides gives list (called {at = at} {question = question} {answer = answer} {c = c} {d = d} call x) s =
+      (gives c d question (meant at question call.wanted) answer list call.asks s,
+        decided_after decides gives (list ++ record { question = question; answer = answer } ∷ []) x
+          (longer c d question (meant at question call.wanted) answer list call.asks s))
+  decided_after decides gives list (entered enter x) s = decided_after decides gives list x s

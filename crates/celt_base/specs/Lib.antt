@@ -1,4 +1,5 @@
 pub mod Ends
+pub mod Energies
 pub mod Intervals
 pub mod Kinds
 pub mod Memory
@@ -11,5 +12,6 @@ pub mod Statuses
 pub mod WalkCalls
 pub mod WalkOrders
 pub mod WalkScripts
+pub mod WalkTables
 pub mod WalkThree
 pub mod Walks

@@ -1,16 +1,14 @@
--- The ranges of the energies, and when an allocation is valid.
-use Rattle.std.specs.Prelude.{◌≡◌, ℕ, ◌+◌, ◌*◌, ◌^◌, ◌<◌, ◌≤◌, ℤ, pos, neg_ℤ, ◌≤ℤ◌, ◌<ℤ◌, List, slice_index_or, Bool, false, EachIndex}
-use Rattle.std.specs.List.{All}
+-- The setting that is off, and when an allocation is valid.
+use Rattle.std.specs.Prelude.{◌≡◌, ℕ, ◌<◌, ◌≤◌, ℤ, pos, ◌≤ℤ◌, slice_index_or, false}
 use Rattle.celt_base.specs.declared.kind.Kind.{Kind}
 use Rattle.celt_base.specs.declared.state.Allocation.{Allocation}
+use Rattle.celt_base.specs.declared.state.Setting.{Setting}
 
--- An energy is from -2^15 up to 2^33.
-pub record IsEnergy (energy : ℤ) : Type 0 where
-  pub least : neg_ℤ (pos (2 ^ 15)) ≤ℤ energy
-  pub most : energy <ℤ pos (2 ^ 33)
-
-abbrev pub AreEnergies : List (List ℤ) → Type 0
-AreEnergies energies = All (λ row. All IsEnergy row) energies
+-- The setting that is off.
+pub record IsOff (setting : Setting) : Type 0 where
+  pub period : setting.period ≡ 15
+  pub gain : setting.gain ≡ 0
+  pub tapset : setting.tapset ≡ 0
 
 -- The eighths of a bit of a band are at most its cap.
 pub record IsShare (cap pulses : ℤ) : Type 0 where

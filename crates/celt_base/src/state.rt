@@ -1,7 +1,7 @@
 //! What an encoder and its decoder share: the setting of the post-filter, the state after a frame, and the allocation of
 //! bits to bands.
-ghost use Rattle.std.specs.Prelude.{◌≤◌};
-ghost use Rattle.celt_base.specs.States.{AreEnergies};
+ghost use Rattle.std.specs.Prelude.{◌≡◌, ◌≤◌, pos, replicate};
+ghost use Rattle.celt_base.specs.Energies.{AreEnergies};
 
 /// A setting of the post-filter (RFC 6716, section 4.3.7.1). Off is period 15, gain 0, tapset 0.
 #[derive(Clone, Copy, Debug, PartialEq, Eq)]
@@ -18,6 +18,21 @@ pub struct Setting {
     ghost most_tapset: { tapset ≤ 2 },
 }
 
+impl Setting {
+    ghost use Rattle.celt_base.specs.States.{IsOff};
+
+    /// The post-filter is off.
+    pub fn off() -> Setting
+        ensures { IsOff result }
+    {
+        Setting {
+            period: 15,
+            gain: 0,
+            tapset: 0,
+        }
+    }
+}
+
 /// The state after a frame that an encoder and its decoder share.
 #[derive(Clone, Copy, Debug, PartialEq, Eq)]
 pub struct Shared {
@@ -32,6 +47,27 @@ pub struct Shared {
     /// The setting of the post-filter of this frame.
     pub now: Setting,
     ghost bounded: { AreEnergies energies },
+}
+
+impl Shared {
+    ghost use Rattle.celt_base.specs.States.{IsOff};
+
+    /// The state before the first frame: energies and seed 0, both settings off.
+    pub fn start() -> Shared
+        ensures range { result.range ≡ 0 }
+        ensures energies { result.energies ≡ replicate 2 (replicate 21 (pos 0)) }
+        ensures seed { result.seed ≡ 0 }
+        ensures before { IsOff result.before }
+        ensures now { IsOff result.now }
+    {
+        Shared {
+            range: 0,
+            energies: [[0; 21]; 2],
+            seed: 0,
+            before: Setting::off(),
+            now: Setting::off(),
+        }
+    }
 }
 
 /// How the bits of a frame are spread over its bands (RFC 6716, section 4.3.3).
