@@ -1,13 +1,13 @@
 -- What a script adds is in its order and decides its value; where what stands before decides each answer, there is one
 -- list in order; how many questions joined scripts ask at most.
-use Rattle.std.proofs.Common.{◌≡◌, ℕ, zero, suc, ◌+◌, ◌*◌, ◌<◌, ◌≤◌, ℤ, List, [], ◌∷◌, ◌++◌, length, Option, Some, None, refl, sym, ◌∙◌, ap, subst, arith}
+use Rattle.std.proofs.Common.{◌≡◌, ℕ, zero, suc, ◌+◌, ◌*◌, ◌<◌, ◌≤◌, ℤ, List, [], ◌∷◌, ◌++◌, Option, Some, None, refl, sym, ◌∙◌, ap, subst, arith}
 use Rattle.std.specs.Prelude.{⊤}
 use Rattle.celt_base.specs.declared.coder.Place.{Place}
 use Rattle.celt_base.specs.declared.question.Question.{Question}
 use Rattle.celt_base.specs.Paces.{Pace, paced}
-use Rattle.celt_base.specs.Questions.{Answered, IsValid, IsAnswer}
-use Rattle.celt_base.specs.WalkScripts.{Script, Done, Look, Ask, Begin, and_then, each, row_of, rows_of, table, asks_at, asks_value_at, asks_bit}
-use Rattle.celt_base.specs.Walks.{Event, Asked, Entered, answered_in, count_of, Adds, done, looked, asked, begun}
+use Rattle.celt_base.specs.Questions.{Answered, IsAnswer}
+use Rattle.celt_base.specs.WalkScripts.{Script, Done, Look, Ask, Begin, and_then, each, row_of, table, asks_at, asks_value_at, asks_bit}
+use Rattle.celt_base.specs.Walks.{Event, answered_in, count_of, Adds, done, looked, asked, begun}
 use Rattle.celt_base.specs.WalkOrders.{Next, AsksAt, Ends, next, outcome, Follows, InOrder, AtMost, MayGive, Decided}
 
 -- behind what a script adds nothing follows, and the value is its outcome
@@ -72,7 +72,7 @@ in_order (begun x) = in_order x
 
 some_same : {A : Type 0} {a b : A} → Some a ≡ Some b → a ≡ b
 some_same {A} {a} {b} e =
-    let value : Option A → A = λ o. elim o [ | Some x ↦ x | None ↦ a ] in ap value e
+    let value : Option A → A = λ o. elim o [ Some x ↦ x | None ↦ a ] in ap value e
 
 -- the answers decide the value
 pub one_value_of : {A : Type 0} {script : Script A} {pace : Pace} {events more : List Event} {value last : A}
@@ -125,13 +125,13 @@ module _ {S : Type 0} (decides : S → Question → ℤ → Type 0) (after : S �
       let same : a ≡ b = same_answered at question state a b (ix [] a xs refl) (iy [] b ys refl) dx.0 dy.0 in
       subst
       (λ c. InOrder (follow c.answer) (paced question c.answer pace) ys
-        → next (follow c.answer) (paced question c.answer pace) ys ≡ Ends
-        → Decided decides after (after state c) ys
-        → a ∷ xs ≡ c ∷ ys)
+      → next (follow c.answer) (paced question c.answer pace) ys ≡ Ends
+      → Decided decides after (after state c) ys
+      → a ∷ xs ≡ c ∷ ys)
       same
       (λ i e d. ap (λ list. a ∷ list)
-        (one_list (follow a.answer) (paced question a.answer pace) (after state a) xs ys
-          (λ front c rest e. ix (a ∷ front) c rest (ap (λ list. a ∷ list) e)) ex dx.1 i e d))
+      (one_list (follow a.answer) (paced question a.answer pace) (after state a) xs ys
+      (λ front c rest e. ix (a ∷ front) c rest (ap (λ list. a ∷ list) e)) ex dx.1 i e d))
       (λ front c rest e. iy (b ∷ front) c rest (ap (λ list. b ∷ list) e))
       ey
       dy.1
@@ -186,7 +186,7 @@ most_each script n last most (suc left) at values le =
     let e : n + left * n ≡ suc left * n = omega arith in
     subst (λ k. AtMost k (each script (suc left) at values)) e
     (most_then (script at values) (λ value. each script left (at + 1) (values ++ value ∷ [])) n (left * n) (most at values (omega arith))
-      (λ value gives. most_each script n last most left (at + 1) (values ++ value ∷ []) (omega arith)))
+    (λ value gives. most_each script n last most left (at + 1) (values ++ value ∷ []) (omega arith)))
 
 pub most_table : {A : Type 0} (script : ℕ → ℕ → Script A) (n channels bands : ℕ)
     → ((band channel : ℕ) → band < bands → channel < channels → AtMost n (script band channel))
@@ -194,7 +194,7 @@ pub most_table : {A : Type 0} (script : ℕ → ℕ → Script A) (n channels ba
 most_table script n channels bands most =
     most_each (λ band before. row_of script band channels 0 []) (channels * n) bands
     (λ band before inside. most_each (λ channel before. script band channel) n channels
-      (λ channel before within. most band channel inside within) channels 0 [] (omega arith))
+    (λ channel before within. most band channel inside within) channels 0 [] (omega arith))
     bands 0 [] (omega arith)
 
 pub most_answer : (at : Place) (question : Question) → AtMost 1 (asks_at at question)

@@ -1,5 +1,5 @@
 -- How walks are joined: what two scripts add one after the other, and a walk that is on its way.
-use Rattle.std.proofs.Common.{◌≡◌, ℕ, suc, ◌+◌, ℤ, List, [], ◌∷◌, ◌++◌, length, refl, sym, ◌∙◌, ap, subst, append_assoc, length-append, arith}
+use Rattle.std.proofs.Common.{◌≡◌, ℕ, ◌+◌, ℤ, List, [], ◌∷◌, ◌++◌, length, refl, sym, ◌∙◌, ap, subst, append_assoc, length-append, arith}
 use Rattle.std.proofs.lemmas.List.{append-nil}
 use Rattle.celt_base.specs.declared.coder.Enter.{Enter}
 use Rattle.celt_base.specs.declared.coder.Place.{Place}
@@ -131,7 +131,7 @@ module _ {C H : Type 0} {coder : CoderCalls C} {chooser : ChooserCalls H} where
     resumes = λ more last x.
         subst (λ events. Adds script (coder.pace c) events last) (sym (append_assoc g.events w.events more))
         (g.resumes (w.events ++ more) last
-          (adds_then next w.adds (subst (λ pace. Adds (next value) pace more last) w.pace x)));
+        (adds_then next w.adds (subst (λ pace. Adds (next value) pace more last) w.pace x)));
     through = through_append g.through w.through;
     pace = joined_pace g.events w.events (coder.pace c) (coder.pace d) (coder.pace e) g.pace w.pace;
     count = joined_count g.events w.events (coder.count c) (coder.count d) (coder.count e) g.count w.count;
@@ -147,7 +147,7 @@ module _ {C H : Type 0} {coder : CoderCalls C} {chooser : ChooserCalls H} where
     resumes = λ more last x.
         subst (λ events. Adds script (coder.pace c) events last) (sym (append_assoc g.events w.events more))
         (g.resumes (w.events ++ more) last
-          (adds_within next rest w.adds (subst (λ pace. Adds (and_then (next value) rest) pace more last) w.pace x)));
+        (adds_within next rest w.adds (subst (λ pace. Adds (and_then (next value) rest) pace more last) w.pace x)));
     through = through_append g.through w.through;
     pace = joined_pace g.events w.events (coder.pace c) (coder.pace d) (coder.pace e) g.pace w.pace;
     count = joined_count g.events w.events (coder.count c) (coder.count d) (coder.count e) g.count w.count;
@@ -241,9 +241,9 @@ finished done = (refl, refl)
 -- is as what stood before decided it.
 module _ {C H : Type 0} {coder : CoderCalls C} {chooser : ChooserCalls H} (Stands : C → List Answered → Type 0)
     (longer : (c d : C) (question : Question) (wanted answer : ℤ) (list : List Answered)
-      → coder.Asks c question wanted answer d
-      → Stands c list
-      → Stands d (list ++ record { question = question; answer = answer } ∷ [])) where
+    → coder.Asks c question wanted answer d
+    → Stands c list
+    → Stands d (list ++ record { question = question; answer = answer } ∷ [])) where
   pub stands_after : {events : List Event} {c d : C} {h k : H} (list : List Answered)
       → Through coder chooser events c h d k
       → Stands c list
@@ -262,8 +262,9 @@ module _ {C H : Type 0} {coder : CoderCalls C} {chooser : ChooserCalls H} (Stand
       → Stands c list
       → Decided decides (λ before a. before ++ a ∷ []) list (answered_in events)
   decided_after decides gives list none s = tt
-  decided_after decides gives list (called {at = at} {question = question} {answer = answer} {c = c} {d = d} call x) s =
-      (gives c d question (meant at question call.wanted) answer list call.asks s,
-        decided_after decides gives (list ++ record { question = question; answer = answer } ∷ []) x
-          (longer c d question (meant at question call.wanted) answer list call.asks s))
+  decided_after decides gives list (called {at = at} {question = question} {answer = answer} {c = c} {d = d} call x) s = (
+    gives c d question (meant at question call.wanted) answer list call.asks s,
+    decided_after decides gives (list ++ record { question = question; answer = answer } ∷ []) x
+        (longer c d question (meant at question call.wanted) answer list call.asks s),
+  )
   decided_after decides gives list (entered enter x) s = decided_after decides gives list x s

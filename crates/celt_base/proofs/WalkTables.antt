@@ -5,7 +5,7 @@ use Rattle.std.proofs.lemmas.Bool.{cases_eq}
 use Rattle.std.proofs.lemmas.List.{get_or-set_same, get_or-set_other, get_or-replicate, length-set, length-replicate}
 use Rattle.std.proofs.lemmas.List.Elements.{All-append, All-cons, All-nil}
 use Rattle.celt_base.specs.WalkCalls.{CoderCalls, ChooserCalls}
-use Rattle.celt_base.specs.WalkScripts.{Script, Done, and_then, each, row_of, rows_of, table}
+use Rattle.celt_base.specs.WalkScripts.{Script, and_then, each, row_of, rows_of, table}
 use Rattle.celt_base.specs.Walks.{Walked}
 use Rattle.celt_base.specs.WalkTables.{HoldsRows, WalkedTable}
 use Rattle.celt_base.proofs.WalkSteps.{Going, start, walk_in, end}
@@ -76,15 +76,15 @@ room_kept channels bands channel band value array below room = record {
   bands_fit = λ other inside.
       elim (cases_eq other channel) [
         | inl same ↦
-          let fit = room.channels_fit in
-          let e : length (get_or (set array channel (set (get_or array channel []) band value)) channel []) ≡ length (get_or array channel []) =
-              ap length (get_or-set_same array channel (set (get_or array channel []) band value) [] (omega (arith, fit)))
-              ∙ length-set (get_or array channel []) band value in
-          subst (λ o. bands ≤ length (get_or (set array channel (set (get_or array channel []) band value)) o [])) (sym same)
-          (subst (λ n. bands ≤ n) (sym e) (room.bands_fit channel below))
+            let fit = room.channels_fit in
+            let e : length (get_or (set array channel (set (get_or array channel []) band value)) channel []) ≡ length (get_or array channel []) =
+            ap length (get_or-set_same array channel (set (get_or array channel []) band value) [] (omega (arith, fit)))
+            ∙ length-set (get_or array channel []) band value in
+            subst (λ o. bands ≤ length (get_or (set array channel (set (get_or array channel []) band value)) o [])) (sym same)
+            (subst (λ n. bands ≤ n) (sym e) (room.bands_fit channel below))
         | inr apart ↦
-          subst (λ list. bands ≤ length list) (sym (get_or-set_other array channel other (set (get_or array channel []) band value) [] apart))
-          (room.bands_fit other inside)
+            subst (λ list. bands ≤ length list) (sym (get_or-set_other array channel other (set (get_or array channel []) band value) [] apart))
+            (room.bands_fit other inside)
       ];
 }
 
@@ -100,39 +100,39 @@ module _ {T : Type 0} where
   entry_written blank value array rows row channel band in_array in_band rows_are row_are holds other at =
       elim (cases_eq other channel) [
         | inl same ↦ elim (cases_eq at band) [
-            | inl here ↦
+          | inl here ↦
               let e : get_or (get_or (set array channel (set (get_or array channel []) band value)) channel []) band blank ≡ value =
-                  ap (λ list. get_or list band blank) (get_or-set_same array channel (set (get_or array channel []) band value) [] in_array)
-                  ∙ get_or-set_same (get_or array channel []) band value blank in_band in
+              ap (λ list. get_or list band blank) (get_or-set_same array channel (set (get_or array channel []) band value) [] in_array)
+              ∙ get_or-set_same (get_or array channel []) band value blank in_band in
               let f : get_or (get_or (rows ++ (row ++ value ∷ []) ∷ []) band []) channel blank ≡ value =
-                  ap (λ list. get_or list channel blank)
-                    (ap (λ n. get_or (rows ++ (row ++ value ∷ []) ∷ []) n []) (sym rows_are) ∙ at_end rows (row ++ value ∷ []) [])
-                  ∙ (ap (λ n. get_or (row ++ value ∷ []) n blank) (sym row_are) ∙ at_end row value blank) in
+              ap (λ list. get_or list channel blank)
+              (ap (λ n. get_or (rows ++ (row ++ value ∷ []) ∷ []) n []) (sym rows_are) ∙ at_end rows (row ++ value ∷ []) [])
+              ∙ (ap (λ n. get_or (row ++ value ∷ []) n blank) (sym row_are) ∙ at_end row value blank) in
               subst
               (λ o. get_or (get_or (set array channel (set (get_or array channel []) band value)) o []) at blank
-                ≡ get_or (get_or (rows ++ (row ++ value ∷ []) ∷ []) at []) o blank)
+              ≡ get_or (get_or (rows ++ (row ++ value ∷ []) ∷ []) at []) o blank)
               (sym same)
               (subst
-                (λ b. get_or (get_or (set array channel (set (get_or array channel []) band value)) channel []) b blank
-                  ≡ get_or (get_or (rows ++ (row ++ value ∷ []) ∷ []) b []) channel blank)
-                (sym here)
-                (e ∙ sym f))
-            | inr away ↦
+              (λ b. get_or (get_or (set array channel (set (get_or array channel []) band value)) channel []) b blank
+              ≡ get_or (get_or (rows ++ (row ++ value ∷ []) ∷ []) b []) channel blank)
+              (sym here)
+              (e ∙ sym f))
+          | inr away ↦
               let kept : get_or (get_or (set array channel (set (get_or array channel []) band value)) channel []) at blank
-                    ≡ get_or (get_or array channel []) at blank =
-                  ap (λ list. get_or list at blank) (get_or-set_same array channel (set (get_or array channel []) band value) [] in_array)
-                  ∙ get_or-set_other (get_or array channel []) band at value blank away in
+              ≡ get_or (get_or array channel []) at blank =
+              ap (λ list. get_or list at blank) (get_or-set_same array channel (set (get_or array channel []) band value) [] in_array)
+              ∙ get_or-set_other (get_or array channel []) band at value blank away in
               subst
               (λ o. get_or (get_or (set array channel (set (get_or array channel []) band value)) o []) at blank
-                ≡ get_or (get_or (rows ++ (row ++ value ∷ []) ∷ []) at []) o blank)
+              ≡ get_or (get_or (rows ++ (row ++ value ∷ []) ∷ []) at []) o blank)
               (sym same)
               (kept ∙ holds channel at ∙ ap (λ list. get_or list channel blank) (same_elsewhere rows row (row ++ value ∷ []) [] at (λ e. away (e ∙ rows_are))))
-          ]
+        ]
         | inr apart ↦
-          let kept : get_or (get_or (set array channel (set (get_or array channel []) band value)) other []) at blank
-                ≡ get_or (get_or array other []) at blank =
-              ap (λ list. get_or list at blank) (get_or-set_other array channel other (set (get_or array channel []) band value) [] apart) in
-          kept ∙ holds other at ∙ sym (row_longer rows row value blank other at (λ e. apart (e ∙ row_are)))
+            let kept : get_or (get_or (set array channel (set (get_or array channel []) band value)) other []) at blank
+            ≡ get_or (get_or array other []) at blank =
+            ap (λ list. get_or list at blank) (get_or-set_other array channel other (set (get_or array channel []) band value) [] apart) in
+            kept ∙ holds other at ∙ sym (row_longer rows row value blank other at (λ e. apart (e ∙ row_are)))
       ]
 
 module _ {C H T : Type 0} (coder : CoderCalls C) (chooser : ChooserCalls H) (script : ℕ → ℕ → Script T) (channels bands : ℕ) (blank : T) where
@@ -187,23 +187,24 @@ module _ {C H T : Type 0} {coder : CoderCalls C} {chooser : ChooserCalls H} {scr
       → AtEntry coder chooser script channels bands blank array c h d k band 0
   first_entry {array} {c} {d} {h} {k} {band} b below =
       entered b.left b.left_is b.going
-    where entered : (left : ℕ) → left + band ≡ bands → Going coder chooser (table script channels bands) (rows_of script channels left band b.rows) c h d k
-              → AtEntry coder chooser script channels bands blank array c h d k band 0
-          entered zero left_is going = absurd (omega arith)
-          entered (suc left) left_is going = record {
-            rows = b.rows;
-            row = [];
-            bands_left = left;
-            bands_left_is = left_is;
-            left = channels;
-            left_is = omega arith;
-            going = going;
-            room = b.room;
-            holds = λ channel at. b.holds channel at ∙ sym (ap (λ list. get_or list channel blank) (blank_end b.rows [] at));
-            bands_are = b.bands_are;
-            row_is = refl;
-            channels_are = b.channels_are;
-          }
+    where
+      entered : (left : ℕ) → left + band ≡ bands → Going coder chooser (table script channels bands) (rows_of script channels left band b.rows) c h d k
+          → AtEntry coder chooser script channels bands blank array c h d k band 0
+      entered zero left_is going = absurd (omega arith)
+      entered (suc left) left_is going = record {
+        rows = b.rows;
+        row = [];
+        bands_left = left;
+        bands_left_is = left_is;
+        left = channels;
+        left_is = omega arith;
+        going = going;
+        room = b.room;
+        holds = λ channel at. b.holds channel at ∙ sym (ap (λ list. get_or list channel blank) (blank_end b.rows [] at));
+        bands_are = b.bands_are;
+        row_is = refl;
+        channels_are = b.channels_are;
+      }
 
   -- an entry is walked and written
   pub next_entry : {array : List (List T)} {c d e : C} {h k m : H} {band channel : ℕ} (value : T)
@@ -213,31 +214,32 @@ module _ {C H T : Type 0} {coder : CoderCalls C} {chooser : ChooserCalls H} {scr
       → AtEntry coder chooser script channels bands blank (set array channel (set (get_or array channel []) band value)) c h e m band (channel + 1)
   next_entry {array} {c} {d} {e} {h} {k} {m} {band} {channel} value a below w =
       walked_on a.left a.left_is a.going
-    where walked_on : (left : ℕ) → left + channel ≡ channels
-              → Going coder chooser (table script channels bands)
-                (and_then (row_of script band left channel a.row) (λ all. rows_of script channels a.bands_left (band + 1) (a.rows ++ all ∷ []))) c h d k
-              → AtEntry coder chooser script channels bands blank (set array channel (set (get_or array channel []) band value)) c h e m band (channel + 1)
-          walked_on zero left_is going = absurd (omega arith)
-          walked_on (suc left) left_is going = record {
-            rows = a.rows;
-            row = a.row ++ value ∷ [];
-            bands_left = a.bands_left;
-            bands_left_is = a.bands_left_is;
-            left = left;
-            left_is = omega arith;
-            going =
-                walk_in (λ value. each (λ channel before. script band channel) left (channel + 1) (a.row ++ value ∷ []))
-                (λ all. rows_of script channels a.bands_left (band + 1) (a.rows ++ all ∷ [])) going w;
-            room = room_kept channels bands channel band value array below a.room;
-            holds =
-                let fit = a.room.channels_fit in
-                let wide = a.room.bands_fit channel below in
-                let last = a.bands_left_is in
-                entry_written blank value array a.rows a.row channel band (omega (arith, fit)) (omega (arith, wide, last)) a.bands_are a.row_is a.holds;
-            bands_are = a.bands_are;
-            row_is = let n = length-append a.row (value ∷ []) in let r = a.row_is in omega (arith, n, r);
-            channels_are = a.channels_are;
-          }
+    where
+      walked_on : (left : ℕ) → left + channel ≡ channels
+          → Going coder chooser (table script channels bands)
+          (and_then (row_of script band left channel a.row) (λ all. rows_of script channels a.bands_left (band + 1) (a.rows ++ all ∷ []))) c h d k
+          → AtEntry coder chooser script channels bands blank (set array channel (set (get_or array channel []) band value)) c h e m band (channel + 1)
+      walked_on zero left_is going = absurd (omega arith)
+      walked_on (suc left) left_is going = record {
+        rows = a.rows;
+        row = a.row ++ value ∷ [];
+        bands_left = a.bands_left;
+        bands_left_is = a.bands_left_is;
+        left = left;
+        left_is = omega arith;
+        going =
+            walk_in (λ value. each (λ channel before. script band channel) left (channel + 1) (a.row ++ value ∷ []))
+            (λ all. rows_of script channels a.bands_left (band + 1) (a.rows ++ all ∷ [])) going w;
+        room = room_kept channels bands channel band value array below a.room;
+        holds =
+            let fit = a.room.channels_fit in
+            let wide = a.room.bands_fit channel below in
+            let last = a.bands_left_is in
+            entry_written blank value array a.rows a.row channel band (omega (arith, fit)) (omega (arith, wide, last)) a.bands_are a.row_is a.holds;
+        bands_are = a.bands_are;
+        row_is = let n = length-append a.row (value ∷ []) in let r = a.row_is in omega (arith, n, r);
+        channels_are = a.channels_are;
+      }
 
   -- the band is walked
   pub next_band : {array : List (List T)} {c d : C} {h k : H} {band channel : ℕ}
@@ -246,24 +248,25 @@ module _ {C H T : Type 0} {coder : CoderCalls C} {chooser : ChooserCalls H} {scr
       → AtBand coder chooser script channels bands blank array c h d k (band + 1)
   next_band {array} {c} {d} {h} {k} {band} {channel} a all =
       walked_on a.left a.left_is a.going
-    where walked_on : (left : ℕ) → left + channel ≡ channels
-              → Going coder chooser (table script channels bands)
-                (and_then (row_of script band left channel a.row) (λ all. rows_of script channels a.bands_left (band + 1) (a.rows ++ all ∷ []))) c h d k
-              → AtBand coder chooser script channels bands blank array c h d k (band + 1)
-          walked_on zero left_is going = record {
-            rows = a.rows ++ a.row ∷ [];
-            left = a.bands_left;
-            left_is = let e = a.bands_left_is in omega (arith, e);
-            going = going;
-            room = a.room;
-            holds = a.holds;
-            bands_are = let n = length-append a.rows (a.row ∷ []) in let r = a.bands_are in omega (arith, n, r);
-            channels_are =
-                let r : length a.row ≡ channels = let i = a.row_is in omega (arith, i) in
-                All-append (λ row. length row ≡ channels) a.rows (a.row ∷ []) a.channels_are
-                (All-cons (λ row. length row ≡ channels) a.row [] r (All-nil (λ row. length row ≡ channels)));
-          }
-          walked_on (suc left) left_is going = absurd (omega arith)
+    where
+      walked_on : (left : ℕ) → left + channel ≡ channels
+          → Going coder chooser (table script channels bands)
+          (and_then (row_of script band left channel a.row) (λ all. rows_of script channels a.bands_left (band + 1) (a.rows ++ all ∷ []))) c h d k
+          → AtBand coder chooser script channels bands blank array c h d k (band + 1)
+      walked_on zero left_is going = record {
+        rows = a.rows ++ a.row ∷ [];
+        left = a.bands_left;
+        left_is = let e = a.bands_left_is in omega (arith, e);
+        going = going;
+        room = a.room;
+        holds = a.holds;
+        bands_are = let n = length-append a.rows (a.row ∷ []) in let r = a.bands_are in omega (arith, n, r);
+        channels_are =
+            let r : length a.row ≡ channels = let i = a.row_is in omega (arith, i) in
+            All-append (λ row. length row ≡ channels) a.rows (a.row ∷ []) a.channels_are
+            (All-cons (λ row. length row ≡ channels) a.row [] r (All-nil (λ row. length row ≡ channels)));
+      }
+      walked_on (suc left) left_is going = absurd (omega arith)
 
   -- all bands are walked
   pub last_band : {array : List (List T)} {c d : C} {h k : H} {band : ℕ}
@@ -272,13 +275,14 @@ module _ {C H T : Type 0} {coder : CoderCalls C} {chooser : ChooserCalls H} {scr
       → WalkedTable coder chooser script channels bands blank array c h d k
   last_band {array} {c} {d} {h} {k} {band} b all =
       walked_on b.left b.left_is b.going
-    where walked_on : (left : ℕ) → left + band ≡ bands → Going coder chooser (table script channels bands) (rows_of script channels left band b.rows) c h d k
-              → WalkedTable coder chooser script channels bands blank array c h d k
-          walked_on zero left_is going = record {
-            rows = b.rows;
-            walked = end going;
-            holds = b.holds;
-            bands_are = let r = b.bands_are in omega (arith, r);
-            channels_are = b.channels_are;
-          }
-          walked_on (suc left) left_is going = absurd (omega arith)
+    where
+      walked_on : (left : ℕ) → left + band ≡ bands → Going coder chooser (table script channels bands) (rows_of script channels left band b.rows) c h d k
+          → WalkedTable coder chooser script channels bands blank array c h d k
+      walked_on zero left_is going = record {
+        rows = b.rows;
+        walked = end going;
+        holds = b.holds;
+        bands_are = let r = b.bands_are in omega (arith, r);
+        channels_are = b.channels_are;
+      }
+      walked_on (suc left) left_is going = absurd (omega arith)

@@ -28,7 +28,9 @@ pub enum Place {
     /// The octave of the post-filter's period.
     Octave,
     /// The post-filter's period within its octave.
-    Period { octave: u32 },
+    Period {
+        octave: u32,
+    },
     /// The post-filter's gain.
     Gain,
     /// The post-filter's tapset.
@@ -38,25 +40,43 @@ pub enum Place {
     /// Whether the coarse energies are coded without the frame before.
     Intra,
     /// A coarse energy. Here a chooser's numbers are values of energies.
-    Coarse { band: u8, channel: u8 },
+    Coarse {
+        band: u8,
+        channel: u8,
+    },
     /// Whether the time-frequency flag changes; `current` is the flag before.
-    Tf { band: u8, current: bool },
+    Tf {
+        band: u8,
+        current: bool,
+    },
     /// Which of the two rows of time-frequency changes counts.
     TfSelect,
     /// The spreading.
     Spread,
     /// Whether a band's cap is boosted once more.
-    Boost { band: u8, turn: u32 },
+    Boost {
+        band: u8,
+        turn: u32,
+    },
     /// The tilt of the allocation.
     Trim,
     /// Whether the last band is kept, which has these eighths of a bit.
-    Skip { band: u8, bits: i32 },
+    Skip {
+        band: u8,
+        bits: i32,
+    },
     /// The band from which intensity stereo begins, of so many coded bands.
-    Intensity { coded: u32 },
+    Intensity {
+        coded: u32,
+    },
     /// Whether the bands below are coded in dual stereo.
     Dual,
     /// The fine energy of these bits.
-    Fine { band: u8, channel: u8, bits: u32 },
+    Fine {
+        band: u8,
+        channel: u8,
+        bits: u32,
+    },
     /// The angle of a split, of `qn` steps: of two halves in time, or of mid and side.
     Theta {
         band: u8,
@@ -67,9 +87,14 @@ pub enum Place {
         stereo: bool,
     },
     /// Whether the second channel of an intensity band is inverted.
-    Inversion { band: u8 },
+    Inversion {
+        band: u8,
+    },
     /// The sign of the side of a band of two coefficients.
-    SideSign { band: u8, theta: i32 },
+    SideSign {
+        band: u8,
+        theta: i32,
+    },
     /// The vector of `k` pulses.
     Pulses {
         band: u8,
@@ -80,11 +105,17 @@ pub enum Place {
         blocks: u32,
     },
     /// The sign of a band of one coefficient.
-    Sign { band: u8, channel: u8 },
+    Sign {
+        band: u8,
+        channel: u8,
+    },
     /// Whether collapsed short blocks are filled.
     Collapse,
     /// The last bit of an energy, from the bits that are left.
-    Last { band: u8, channel: u8 },
+    Last {
+        band: u8,
+        channel: u8,
+    },
 }
 
 /// A coder of questions: a reader gives the answers of a frame, a writer those nearest to the wanted ones.

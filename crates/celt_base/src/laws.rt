@@ -15,8 +15,7 @@ pub fn law_script_order<A>()
         → Adds script pace events value → next script pace (answered_in events) ≡ Ends }
     ensures value { (script : Script A) (pace : Pace) (events : List Event) (value : A)
         → Adds script pace events value → outcome script pace (answered_in events) ≡ Some value }
-{
-}
+{}
 
 /// A script adds no more questions than it asks at most. Joined scripts ask at most the sum, and a table over bands and
 /// channels the product.
@@ -28,8 +27,7 @@ pub fn law_script_count<A, B>()
     ensures product { (n channels bands : ℕ) (script : ℕ → ℕ → Script A)
         → ((band channel : ℕ) → band < bands → channel < channels → AtMost n (script band channel))
         → AtMost (bands * (channels * n)) (table script channels bands) }
-{
-}
+{}
 
 /// Where what stands before decides each answer, at most one list is in order up to the script's end.
 pub fn law_one_list<A, S>()
@@ -38,5 +36,4 @@ pub fn law_one_list<A, S>()
         → InOrder script pace xs → next script pace xs ≡ Ends → Decided (λ before question answer. answer ≡ decide before question) after state xs
         → InOrder script pace ys → next script pace ys ≡ Ends → Decided (λ before question answer. answer ≡ decide before question) after state ys
         → xs ≡ ys }
-{
-}
+{}

@@ -115,12 +115,7 @@ pub fn ask_value_at<C: Coder, H: Chooser>(
 }
 
 /// Asks a bit that is 1 with probability 2^-p, and gives whether it is.
-pub fn ask_bit<C: Coder, H: Chooser>(
-    coder: &mut C,
-    chooser: &mut H,
-    at: Place,
-    p: u32,
-) -> bool
+pub fn ask_bit<C: Coder, H: Chooser>(coder: &mut C, chooser: &mut H, at: Place, p: u32) -> bool
     requires valid { IsValid (Question.Bit p) }
     requires few { C.calls.count coder.old < 4096 }
     ensures walked { Walked C.calls H.calls (asks_bit at p) result coder.old chooser.old coder.new chooser.new }
@@ -134,25 +129,24 @@ pub fn ask_bit<C: Coder, H: Chooser>(
 pub struct FirstEnergy {
     /// Whether it is coded without the frame before.
     pub intra: bool,
-    /// The coarse energy.
+    /// The value of the coarse energy.
     pub coarse: i64,
-    /// The fine energy, a number of so many bits.
-    pub fine: i64,
+    /// The last bit.
+    pub last: i64,
 }
 
-/// Asks three questions of three kinds: a walk as every walk of a frame's questions is.
+/// Asks three questions, each of a kind of its own: a walk in small, as every walk of a frame's questions is.
 pub fn ask_first_energy<C: Coder, H: Chooser>(
     coder: &mut C,
     chooser: &mut H,
-    fs: u32,
-    decay: u32,
-    bits: u32,
+    coarse_question: Question,
+    last_question: Question,
 ) -> FirstEnergy
-    requires laplace { IsValid (Question.Laplace fs decay) }
-    requires raw { IsValid (Question.Raw bits) }
+    requires coarse { IsValid coarse_question }
+    requires last { IsValid last_question }
     requires few { C.calls.count coder.old + 3 ≤ 4096 }
-    ensures walked { Walked C.calls H.calls (first_script fs decay bits) result coder.old chooser.old coder.new chooser.new }
-    ensures list { AsksThree C.calls H.calls fs decay bits result coder.old chooser.old coder.new chooser.new }
+    ensures walked { Walked C.calls H.calls (first_script coarse_question last_question) result coder.old chooser.old coder.new chooser.new }
+    ensures list { AsksThree C.calls H.calls coarse_question last_question result coder.old chooser.old coder.new chooser.new }
     ensures count { C.calls.count coder.new ≡ C.calls.count coder.old + 3 }
 {
     let intra = ask_bit(coder, chooser, Place::Intra, 3);
@@ -160,16 +154,15 @@ pub fn ask_first_energy<C: Coder, H: Chooser>(
         band: 0,
         channel: 0,
     };
-    let coarse = ask_value_at(coder, chooser, at, Question::Laplace { fs, decay });
-    let at = Place::Fine {
+    let coarse = ask_value_at(coder, chooser, at, coarse_question);
+    let at = Place::Last {
         band: 0,
         channel: 0,
-        bits,
     };
-    let fine = ask_at(coder, chooser, at, Question::Raw(bits));
+    let last = ask_at(coder, chooser, at, last_question);
     FirstEnergy {
         intra,
         coarse,
-        fine,
+        last,
     }
 }

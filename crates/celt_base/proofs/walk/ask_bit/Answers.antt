@@ -1,4 +1,3 @@
-use Rattle.std.proofs.Common.{w64, subst, refl}
 use Rattle.celt_base.proofs.WalkSteps.{one_bit}
 use Rattle.celt_base.proofs.WalkValues.{is_one_test}
 use Rattle.celt_base.proofs.walk.ask_bit.Goals as goal
