@@ -1,10 +1,9 @@
 //! The types that every crate of `celt` shares: statuses and faults, the outside (sources of bytes,
-//! sinks of bytes, gates), the kind of a CELT frame and the questions of its range coder.
+//! sinks of bytes, gates), the kind of a CELT frame, the questions of its range coder, and the walks that ask them.
 #![tactic(auto)]
 
 pub mod coder;
 pub mod kind;
-mod laws;
 pub mod memory;
 pub mod outside;
 pub mod question;
@@ -14,5 +13,4 @@ pub mod status;
 #[cfg(test)]
 mod tests;
 pub mod walk;
-
-pub use laws::{law_one_list, law_script_count, law_script_order};
+pub mod walk_laws;

@@ -1,5 +1,5 @@
 use Rattle.celt_base.proofs.WalkOrders.{at_most, most_then, most_table}
-use Rattle.celt_base.proofs.laws.law_script_count.Goals as goal
+use Rattle.celt_base.proofs.walk_laws.law_script_count.Goals as goal
 
 pub returns : goal.returns
 returns g c = record {

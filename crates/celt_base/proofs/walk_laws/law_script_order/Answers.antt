@@ -1,5 +1,5 @@
 use Rattle.celt_base.proofs.WalkOrders.{in_order, next_after, outcome_after}
-use Rattle.celt_base.proofs.laws.law_script_order.Goals as goal
+use Rattle.celt_base.proofs.walk_laws.law_script_order.Goals as goal
 
 pub returns : goal.returns
 returns g c = record {
