@@ -8,3 +8,4 @@ pub mod WalkSteps
 pub mod WalkTables
 pub mod WalkThree
 pub mod WalkValues
+pub mod Writing

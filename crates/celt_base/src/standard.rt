@@ -1,6 +1,7 @@
-//! A source and a sink over std's readers and writers. They tell nothing of their bytes: what a real
-//! file, pipe or terminal gives or keeps is trusted.
-ghost use Rattle.std.specs.Prelude.{◌≡◌, ◌+◌, ◌^◌, ◌<◌, ◌≤◌, length, None};
+//! A source and a sink over std's readers and writers. They tell the bytes that the reader and the
+//! writer tell: those in memory tell them, files, pipes and terminals do not, and what these give or
+//! keep is trusted.
+ghost use Rattle.std.specs.Prelude.{◌≡◌, ◌+◌, ◌^◌, ◌<◌, ◌≤◌, length};
 ghost use Rattle.std.specs.Io.{ReadsAtMost};
 ghost use Rattle.std.specs.Io.KnownBytes.{ReadConsumes};
 ghost use Rattle.celt_base.specs.Outside.{HasCause, Rose, WritesAll};
@@ -16,15 +17,17 @@ pub struct StdSource<R> {
 }
 
 impl<R: Read + Drop> StdSource<R> {
+    /// A source over the reader, which did not fail yet.
     pub fn new(inner: R) -> StdSource<R>
-        ensures { result.faults ≡ 0 }
+        ensures inner { result.inner ≡ inner }
+        ensures faults { result.faults ≡ 0 }
     {
         StdSource { inner, faults: 0 }
     }
 }
 
 impl<R: Read + Drop> Source for StdSource<R> {
-    ghost left = { λ _. None };
+    ghost left = { λ s. R.remaining s.inner };
 
     ghost faults = { λ s. s.faults };
 
@@ -47,20 +50,27 @@ pub struct StdSink<W> {
 }
 
 impl<W: Write + Drop> StdSink<W> {
+    /// A sink over the writer, which did not fail yet.
     pub fn new(inner: W) -> StdSink<W>
-        ensures { result.faults ≡ 0 }
+        ensures inner { result.inner ≡ inner }
+        ensures faults { result.faults ≡ 0 }
     {
         StdSink { inner, faults: 0 }
     }
 }
 
-/// Writes all the bytes, and answers whether that worked.
-fn write_bytes<W: Write>(inner: &mut W, bytes: &[u8]) -> Result<(), Failed> {
+/// Writes all the bytes, and answers whether that worked. Where it did not, a front was written.
+fn write_bytes<W: Write>(inner: &mut W, bytes: &[u8]) -> Result<(), Failed>
+    ensures { WritesAll (W.contents inner.old) (W.contents inner.new) result bytes.now }
+{
     let mut rest = bytes;
     while !rest.is_empty() {
         match inner.write(rest) {
             Ok(0) => return Err(Failed),
-            Ok(count) => rest = &rest[count..],
+            Ok(count) => {
+                let (_, behind) = rest.split_at(count);
+                rest = behind;
+            }
             Err(_) => return Err(Failed),
         }
     }
@@ -68,7 +78,7 @@ fn write_bytes<W: Write>(inner: &mut W, bytes: &[u8]) -> Result<(), Failed> {
 }
 
 impl<W: Write + Drop> Sink for StdSink<W> {
-    ghost held = { λ _. None };
+    ghost held = { λ s. W.contents s.inner };
 
     ghost faults = { λ s. s.faults };
 

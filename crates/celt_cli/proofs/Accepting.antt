@@ -1,8 +1,8 @@
 -- A page after the pages that a progress stands for.
-use Rattle.std.proofs.Common.{◌≡◌, ℕ, zero, suc, ◌+◌, ◌*◌, ◌%◌, ◌^◌, ◌<◌, ◌≤◌, Bool, true, false, not, List, [], ◌∷◌, ◌++◌, length, drop, refl, sym, ◌∙◌, ap, subst, arith, add-zero, length-append, Some, None, pos}
-use Rattle.std.specs.Prelude.{◌==◌, ◌&&◌, ◌||◌, nat_eq}
+use Rattle.std.proofs.Common.{◌≡◌, ℕ, ◌+◌, ◌%◌, ◌^◌, ◌≤◌, Bool, true, false, not, List, [], ◌∷◌, ◌++◌, length, refl, sym, ◌∙◌, ap, subst, arith, add-zero, length-append, Some, None, pos}
+use Rattle.std.specs.Prelude.{◌&&◌, ◌||◌}
 use Rattle.std.specs.Ordering.{int_eq}
-use Rattle.std.proofs.lemmas.Bool.{eqb-true, and_parts, and_from, and_left, and_right, not-true}
+use Rattle.std.proofs.lemmas.Bool.{and_parts, and_from, not-true}
 use Rattle.std.proofs.lemmas.List.Sums.{sum_by-append, sum_by-cons}
 use Rattle.std.proofs.lemmas.List.Folds.{list_any-append}
 use Rattle.std.specs.List.{list_any}
@@ -43,7 +43,7 @@ unfolding is_built
 head_accepted p next page none test pages serial sequence samples ended before stands =
     let e = none_before before (sym none ∙ stands.pages) in
     subst (λ l. AcceptsAfter page (Some next) l) (sym e)
-      (test, record { pages = pages; numbers = (serial, sequence); samples = samples; ended = ended })
+    (test, record { pages = pages; numbers = (serial, sequence); samples = samples; ended = ended })
 
 -- the test of serial and sequence number is that of the form
 same_test : (p : Progress) (head page : Page) (k : ℕ) → p.serial ≡ head.serial → p.sequence ≡ (head.sequence + k) % 2 ^ 32 → follows head k page ≡ continues p page
@@ -66,9 +66,10 @@ unfolding is_built
 tags_accepted p next page one test pages serial sequence samples ended before stands =
     let b = one_before before (sym one ∙ stands.pages) in
     let n : Numbers p.serial p.sequence (b.0 ∷ []) = subst (λ l. Numbers p.serial p.sequence l) b.1 stands.numbers in
-    subst (λ l. AcceptsAfter page (Some next) l) (sym b.1)
-      (ap (λ t. has_comments page && t) (same_test p b.0 page 1 n.0 n.1) ∙ test
-      , record { pages = pages; numbers = (serial ∙ n.0, sequence ∙ next_sequence p.sequence b.0.sequence 1 n.1); samples = samples; ended = ended })
+    subst (λ l. AcceptsAfter page (Some next) l) (sym b.1) (
+      ap (λ t. has_comments page && t) (same_test p b.0 page 1 n.0 n.1) ∙ test,
+      record { pages = pages; numbers = (serial ∙ n.0, sequence ∙ next_sequence p.sequence b.0.sequence 1 n.1); samples = samples; ended = ended },
+    )
 
 -- ---- pages from page 2 on
 
@@ -83,7 +84,7 @@ audio_test p page head tags audio stands =
     let len : length (head ∷ tags ∷ audio) ≡ 2 + length audio = omega arith in
     let sequence : p.sequence ≡ (head.sequence + (2 + length audio)) % 2 ^ 32 = stands.numbers.1 ∙ ap (λ k. (head.sequence + k) % 2 ^ 32) len in
     ap (λ t. not (is_ended audio) && has_silence page && t && int_eq page.granule (pos (samples_in audio + samples_of page)))
-      (same_test p head page (2 + length audio) stands.numbers.0 sequence)
+    (same_test p head page (2 + length audio) stands.numbers.0 sequence)
     ∙ ap (λ t. not t && has_silence page && continues p page && int_eq page.granule (pos (samples_in audio + samples_of page))) (sym stands.ended)
     ∙ ap (λ t. is_audio p page && int_eq page.granule (pos (t + samples_of page))) (sym stands.samples)
 
@@ -108,13 +109,15 @@ audio_next : (p next : Progress) (page head tags : Page) (audio : List Page) →
     → StandsFor next (head ∷ tags ∷ (audio ++ page ∷ []))
 audio_next p next page head tags audio stands going pages serial sequence samples ended =
     let longer : length (head ∷ tags ∷ (audio ++ page ∷ [])) ≡ length (head ∷ tags ∷ audio) + 1 =
-      let e = length-append audio (page ∷ []) in omega arith in
+    let e = length-append audio (page ∷ []) in omega arith in
     record {
       pages = pages ∙ ap (λ n. n + 1) stands.pages ∙ sym longer;
-      numbers = ( serial ∙ stands.numbers.0
-        , sequence ∙ next_sequence p.sequence head.sequence (length (head ∷ tags ∷ audio)) stands.numbers.1 ∙ ap (λ n. (head.sequence + n) % 2 ^ 32) (sym longer) );
+      numbers = (
+        serial ∙ stands.numbers.0,
+        sequence ∙ next_sequence p.sequence head.sequence (length (head ∷ tags ∷ audio)) stands.numbers.1 ∙ ap (λ n. (head.sequence + n) % 2 ^ 32) (sym longer),
+      );
       samples = samples ∙ ap (λ n. n + samples_of page) stands.samples ∙ ap (λ n. samples_in audio + n) (sym (samples_in-one page)) ∙ sym (sum_by-append samples_of audio (page ∷ []));
-      ended = ended ∙ sym (is_ended-append audio page (sym stands.ended ∙ going))
+      ended = ended ∙ sym (is_ended-append audio page (sym stands.ended ∙ going));
     }
 
 pub audio_accepted : (p next : Progress) (page : Page) → 2 ≤ p.pages → is_audio p page ≡ true → int_eq page.granule (pos (p.samples + samples_of page)) ≡ true
@@ -124,6 +127,7 @@ audio_accepted p next page some test granule pages serial sequence samples ended
     let b = two_before before (subst (λ n. 2 ≤ n) stands.pages some) in
     let s = subst (StandsFor p) b.is stands in
     let open_now : p.ended ≡ false = not-true p.ended (and_parts (not p.ended) (has_silence page) (and_parts (not p.ended && has_silence page) (continues p page) test).0).0 in
-    subst (λ l. AcceptsAfter page (Some next) l) (sym b.is)
-      ( audio_test p page b.head b.tags b.audio s ∙ and_from (is_audio p page) (int_eq page.granule (pos (p.samples + samples_of page))) test granule
-      , audio_next p next page b.head b.tags b.audio s open_now pages serial sequence samples ended )
+    subst (λ l. AcceptsAfter page (Some next) l) (sym b.is) (
+      audio_test p page b.head b.tags b.audio s ∙ and_from (is_audio p page) (int_eq page.granule (pos (p.samples + samples_of page))) test granule,
+      audio_next p next page b.head b.tags b.audio s open_now pages serial sequence samples ended,
+    )

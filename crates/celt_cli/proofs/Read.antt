@@ -1,5 +1,5 @@
 -- Reading in turns.
-use Rattle.std.proofs.Common.{◌≡◌, ℕ, ◌≤◌, arith, List, replicate, length, ◌∙◌, ap, Result, Ok, Err, Vec, IfOk}
+use Rattle.std.proofs.Common.{◌≡◌, ℕ, ◌≤◌, arith, replicate, length, ◌∙◌, ap, Result, Ok, Err, Vec, IfOk}
 use Rattle.std.proofs.Math.ListN.{length-replicate}
 use Rattle.std.specs.declared.alloc.Global.{Global}
 use Rattle.celt_base.proofs.Causes.{rose_after}

@@ -1,5 +1,5 @@
 -- How far the pages of some bytes were walked.
-use Rattle.std.proofs.Common.{◌≡◌, ℕ, zero, suc, ◌+◌, ◌-◌, ◌*◌, ◌<◌, ◌≤◌, Bool, true, false, List, [], ◌∷◌, ◌++◌, length, take, drop, replicate, refl, sym, ◌∙◌, ap, subst, arith, append_assoc, append-nil, length-append, length-drop, Option, Some, None, nat_lt}
+use Rattle.std.proofs.Common.{◌≡◌, ℕ, ◌+◌, ◌-◌, ◌<◌, ◌≤◌, Bool, true, false, List, [], ◌∷◌, ◌++◌, length, take, drop, refl, sym, ◌∙◌, ap, subst, arith, append_assoc, append-nil, length-append, length-drop, Option, Some, None, nat_lt}
 use Rattle.std.specs.Prelude.{if◌then◌else◌, not, ◌==◌}
 use Rattle.std.specs.List.{flat_map}
 use Rattle.std.specs.Io.KnownBytes.{Appends}
@@ -10,13 +10,12 @@ use Rattle.celt_base.specs.declared.status.Fault.{Fault}
 use Rattle.celt_base.specs.declared.status.FaultName.TheVariants as names
 use Rattle.celt_base.specs.Outside.{AppendsFront}
 use Rattle.celt_base.proofs.Causes.{then_front, longer_front}
-use Rattle.ogg_pages.specs.declared.page.Verdict.{Verdict}
 use Rattle.ogg_pages.specs.declared.page.Verdict.TheVariants.{Whole, Need}
 use Rattle.ogg_pages.specs.declared.page.Verdict.TheVariants as verdicts
 use Rattle.ogg_pages.specs.declared.page.PageFault.{PageFault}
 use Rattle.ogg_pages.specs.Verdicts.{verdict}
 use Rattle.ogg_pages.specs.Fields.{Page, page_of}
-use Rattle.ogg_pages.specs.Stream.{Stream, Ending, Sound, Cut, ending_by, ending_of, no_page, with_page, stream}
+use Rattle.ogg_pages.specs.Stream.{Stream, Sound, Cut, ending_by, ending_of, no_page, with_page, stream}
 use Rattle.ogg_pages.proofs.Judged.{sound_of}
 use Rattle.ogg_pages.proofs.Streams.{stream-Whole, stream-Need, stream-Fault}
 use Rattle.celt_cli.specs.declared.progress.Progress.{Progress}
@@ -49,11 +48,11 @@ samples_on-append (head ∷ tags ∷ audio) page =
     ∙ ap (λ l. flat_map silence_of audio ++ l) (append-nil (silence_of page) ∙ sym (ap (λ b. if b then [] else silence_of page) many))
 
 -- a page of the form goes to the front
-built_first : (before : List Page) (page : Page) (pages : List Page) → is_built before page ≡ true
+pub built_first : (before : List Page) (page : Page) (pages : List Page) → is_built before page ≡ true
     → accepted_after before (page ∷ pages) ≡ page ∷ accepted_after (before ++ page ∷ []) pages
 built_first before page pages h = ap (λ b. if b then page ∷ accepted_after (before ++ page ∷ []) pages else []) h
 
-not_built_first : (before : List Page) (page : Page) (pages : List Page) → is_built before page ≡ false → accepted_after before (page ∷ pages) ≡ []
+pub not_built_first : (before : List Page) (page : Page) (pages : List Page) → is_built before page ≡ false → accepted_after before (page ∷ pages) ≡ []
 not_built_first before page pages h = ap (λ b. if b then page ∷ accepted_after (before ++ page ∷ []) pages else []) h
 
 -- ---- one turn
@@ -82,12 +81,12 @@ one bytes rest view p next old now after w v is accepts adds =
       pages = w.pages ∙ ap (λ (t : Stream). w.before ++ t.pages) first ∙ sym (append_assoc w.before (page ∷ []) behind.pages);
       ending = w.ending ∙ ap (λ (t : Stream). t.ending) first;
       front = w.front ∙ ap (λ (t : Stream). w.before ++ accepted_after w.before t.pages) first
-        ∙ ap (λ l. w.before ++ l) (built_first w.before page behind.pages built.0)
-        ∙ sym (append_assoc w.before (page ∷ []) (accepted_after (w.before ++ page ∷ []) behind.pages));
+          ∙ ap (λ l. w.before ++ l) (built_first w.before page behind.pages built.0)
+          ∙ sym (append_assoc w.before (page ∷ []) (accepted_after (w.before ++ page ∷ []) behind.pages));
       added = subst (Appends old after) (sym (samples_on-append w.before page))
-        (Appends-trans old now after (samples_on w.before) (samples_behind (length w.before) page) w.added
+          (Appends-trans old now after (samples_on w.before) (samples_behind (length w.before) page) w.added
           (subst (λ n. Appends now after (samples_behind n page)) w.stands.pages adds));
-      few = omega arith
+      few = omega arith;
     }
 
 -- ---- where the walk ends
@@ -99,7 +98,7 @@ unfolding full fault_of
 ended_at bytes before old now fault front adds is =
     record {
       fault_is = is ∙ ap (λ l. fault_behind l (stream bytes)) (sym front);
-      added = subst (λ l. Appends old now (samples_on l)) (sym front) adds
+      added = subst (λ l. Appends old now (samples_on l)) (sym front) adds;
     }
 
 pub not_built : (bytes rest view : List ℕ) (p : Progress) (old now : Option (List ℕ)) → Walking bytes rest p old now
@@ -109,30 +108,30 @@ not_built bytes rest view p old now w v is refuses =
     let behind = stream (drop (length view) rest) in
     let first : stream rest ≡ with_page page behind = page_first rest view v is in
     let front : accepted (stream bytes) ≡ w.before =
-      w.front ∙ ap (λ (t : Stream). w.before ++ accepted_after w.before t.pages) first
-      ∙ ap (λ l. w.before ++ l) (not_built_first w.before page behind.pages (refuses w.before w.stands)) ∙ append-nil w.before in
+    w.front ∙ ap (λ (t : Stream). w.before ++ accepted_after w.before t.pages) first
+    ∙ ap (λ l. w.before ++ l) (not_built_first w.before page behind.pages (refuses w.before w.stands)) ∙ append-nil w.before in
     let all : (stream bytes).pages ≡ w.before ++ page ∷ behind.pages = w.pages ∙ ap (λ (t : Stream). w.before ++ t.pages) first in
     let more : length w.before < length (stream bytes).pages = rw (all, length-append) (omega arith) in
     ended_at bytes w.before old now (Some (fault_at names.NotBuilt p.pages)) front w.added
-      ( ap (λ n. Some (fault_at names.NotBuilt n)) w.stands.pages
-      ∙ sym (ap (λ b. if b then Some (fault_at names.NotBuilt (length w.before)) else end_fault (is_ended (drop 2 w.before)) (length w.before) (stream bytes).ending)
-          (lt-ltb (length w.before) (length (stream bytes).pages) more)) )
+    (ap (λ n. Some (fault_at names.NotBuilt n)) w.stands.pages
+    ∙ sym (ap (λ b. if b then Some (fault_at names.NotBuilt (length w.before)) else end_fault (is_ended (drop 2 w.before)) (length w.before) (stream bytes).ending)
+    (lt-ltb (length w.before) (length (stream bytes).pages) more)))
 
 -- no page begins in the rest
 no_more : (bytes rest : List ℕ) (p : Progress) (old now : Option (List ℕ)) (fault : Option Fault) → Walking bytes rest p old now → stream rest ≡ no_page rest
     → fault ≡ end_fault p.ended p.pages (ending_of rest) → Ended bytes old now fault
 no_more bytes rest p old now fault w none is =
     let front : accepted (stream bytes) ≡ w.before =
-      w.front ∙ ap (λ (t : Stream). w.before ++ accepted_after w.before t.pages) none ∙ append-nil w.before in
+    w.front ∙ ap (λ (t : Stream). w.before ++ accepted_after w.before t.pages) none ∙ append-nil w.before in
     let all : (stream bytes).pages ≡ w.before = w.pages ∙ ap (λ (t : Stream). w.before ++ t.pages) none ∙ append-nil w.before in
     let ending : (stream bytes).ending ≡ ending_of rest = w.ending ∙ ap (λ (t : Stream). t.ending) none in
     let no : nat_lt (length w.before) (length (stream bytes).pages) ≡ false = le-ltb (length w.before) (length (stream bytes).pages) (rw all (omega arith)) in
     ended_at bytes w.before old now fault front w.added
-      ( is
-      ∙ ap (λ b. end_fault b p.pages (ending_of rest)) w.stands.ended
-      ∙ ap (λ n. end_fault (is_ended (drop 2 w.before)) n (ending_of rest)) w.stands.pages
-      ∙ ap (end_fault (is_ended (drop 2 w.before)) (length w.before)) (sym ending)
-      ∙ sym (ap (λ b. if b then Some (fault_at names.NotBuilt (length w.before)) else end_fault (is_ended (drop 2 w.before)) (length w.before) (stream bytes).ending) no) )
+    (is
+    ∙ ap (λ b. end_fault b p.pages (ending_of rest)) w.stands.ended
+    ∙ ap (λ n. end_fault (is_ended (drop 2 w.before)) n (ending_of rest)) w.stands.pages
+    ∙ ap (end_fault (is_ended (drop 2 w.before)) (length w.before)) (sym ending)
+    ∙ sym (ap (λ b. if b then Some (fault_at names.NotBuilt (length w.before)) else end_fault (is_ended (drop 2 w.before)) (length w.before) (stream bytes).ending) no))
 
 pub at_end : (bytes rest : List ℕ) (p : Progress) (old now : Option (List ℕ)) (fault : Option Fault) → Walking bytes rest p old now → verdict rest ≡ Need
     → fault ≡ end_fault p.ended p.pages (ending_of rest) → Ended bytes old now fault
@@ -145,12 +144,13 @@ at_break bytes rest p old now broken fault w v is = no_more bytes rest p old now
 -- ---- a failed write
 
 -- the samples of the front and of the next page are a front of all samples
-samples_ahead : (front : List Page) (before : List Page) → (more : List Page) → front ≡ before ++ more → (rest : List ℕ) × (samples_on front ≡ samples_on before ++ rest)
+pub samples_ahead : (front : List Page) (before : List Page) → (more : List Page) → front ≡ before ++ more → (rest : List ℕ) × (samples_on front ≡ samples_on before ++ rest)
 samples_ahead front before [] e = ([], ap samples_on (e ∙ append-nil before) ∙ sym (append-nil (samples_on before)))
 samples_ahead front before (page ∷ more) e =
-    let r = samples_ahead front (before ++ page ∷ []) more (e ∙ sym (append_assoc before (page ∷ []) more)) in
-    ( samples_behind (length before) page ++ r.0
-    , r.1 ∙ ap (λ l. l ++ r.0) (samples_on-append before page) ∙ append_assoc (samples_on before) (samples_behind (length before) page) r.0 )
+    let r = samples_ahead front (before ++ page ∷ []) more (e ∙ sym (append_assoc before (page ∷ []) more)) in (
+      samples_behind (length before) page ++ r.0,
+      r.1 ∙ ap (λ l. l ++ r.0) (samples_on-append before page) ∙ append_assoc (samples_on before) (samples_behind (length before) page) r.0,
+    )
 
 pub failed : (bytes rest view : List ℕ) (p next : Progress) (old now after : Option (List ℕ)) → Walking bytes rest p old now
     → verdict rest ≡ Whole (length view) → view ≡ take (length view) rest → Accepts p (page_of view) (Some next) → AppendsFront now after (samples_behind p.pages (page_of view))
@@ -162,12 +162,12 @@ failed bytes rest view p next old now after w v is accepts adds =
     let first : stream rest ≡ with_page page behind = page_first rest view v is in
     let built = accepts w.before w.stands in
     let front : accepted (stream bytes) ≡ (w.before ++ page ∷ []) ++ accepted_after (w.before ++ page ∷ []) behind.pages =
-      w.front ∙ ap (λ (t : Stream). w.before ++ accepted_after w.before t.pages) first
-      ∙ ap (λ l. w.before ++ l) (built_first w.before page behind.pages built.0)
-      ∙ sym (append_assoc w.before (page ∷ []) (accepted_after (w.before ++ page ∷ []) behind.pages)) in
+    w.front ∙ ap (λ (t : Stream). w.before ++ accepted_after w.before t.pages) first
+    ∙ ap (λ l. w.before ++ l) (built_first w.before page behind.pages built.0)
+    ∙ sym (append_assoc w.before (page ∷ []) (accepted_after (w.before ++ page ∷ []) behind.pages)) in
     let r = samples_ahead (accepted (stream bytes)) (w.before ++ page ∷ []) (accepted_after (w.before ++ page ∷ []) behind.pages) front in
     let same : samples_on (accepted (stream bytes)) ≡ (samples_on w.before ++ samples_behind (length w.before) page) ++ r.0 =
-      r.1 ∙ ap (λ l. l ++ r.0) (samples_on-append w.before page) in
+    r.1 ∙ ap (λ l. l ++ r.0) (samples_on-append w.before page) in
     let adds_here : AppendsFront now after (samples_behind (length w.before) page) = subst (λ n. AppendsFront now after (samples_behind n page)) w.stands.pages adds in
     let both = then_front old now after (samples_on w.before) (samples_behind (length w.before) page) w.added adds_here in
     subst (AppendsFront old after) (sym same) (longer_front old after (samples_on w.before ++ samples_behind (length w.before) page) r.0 both)

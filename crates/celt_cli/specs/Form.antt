@@ -1,17 +1,16 @@
 -- The form of a stream that is decoded so far: one channel, no pre-skip, no gain, each page one whole packet, each frame
 -- silent (RFC 7845, sections 3 to 5; RFC 6716, section 3). It is said page by page, of a page and of those before it.
-use Rattle.std.specs.Prelude.{ℕ, ℤ, pos, ◌+◌, ◌-◌, ◌*◌, ◌%◌, ◌^◌, ◌==◌, ◌&&◌, ◌||◌, Bool, not, List, [], ◌∷◌, ◌++◌, length, take, drop, slice_index, sum_by, nat_eq, nat_lt, nat_le}
+use Rattle.std.specs.Prelude.{ℕ, pos, ◌+◌, ◌-◌, ◌*◌, ◌%◌, ◌^◌, ◌==◌, ◌&&◌, ◌||◌, Bool, false, not, Result, Ok, Err, List, [], ◌∷◌, length, take, drop, slice_index, sum_by, nat_eq, nat_lt, nat_le}
 use Rattle.std.specs.List.{starts_with, list_all, list_any}
 use Rattle.std.specs.Ordering.{int_eq}
-use Rattle.byteorder.specs.Endian.{little_number}
+use Rattle.opus_packets.specs.declared.header.Head.{Head}
+use Rattle.opus_packets.specs.declared.header.HeadFault.{HeadFault}
+use Rattle.opus_packets.specs.Header.{head_of}
 use Rattle.celt_base.specs.Kinds.{config_of_toc, stereo_of_toc}
 use Rattle.range_coder.specs.Reading.{first_bit}
 use Rattle.ogg_pages.specs.Fields.{Page}
 
--- "OpusHead" and "OpusTags"
-abbrev pub head_letters : List ℕ
-head_letters = 79 ∷ 112 ∷ 117 ∷ 115 ∷ 72 ∷ 101 ∷ 97 ∷ 100 ∷ []
-
+-- "OpusTags"
 abbrev pub tags_letters : List ℕ
 tags_letters = 79 ∷ 112 ∷ 117 ∷ 115 ∷ 84 ∷ 97 ∷ 103 ∷ 115 ∷ []
 
@@ -21,11 +20,14 @@ holds_packet lacing =
     nat_lt 0 (length lacing) && list_all (λ value. value == 255) (take (length lacing - 1) lacing)
     && nat_lt (slice_index lacing (length lacing - 1)) 255
 
--- An identification header of version 1 for one channel, with pre-skip 0, gain 0 and mapping family 0.
+-- An identification header that says one channel, pre-skip 0 and gain 0.
+abbrev pub is_plain_head : Result Head HeadFault → Bool
+is_plain_head (Ok head) = (head.channels == 1) && (head.preskip == 0) && int_eq head.gain (pos 0)
+is_plain_head (Err fault) = false
+
+-- It has version 1, 19 bytes, and mapping family 0, without which it is not read.
 unfoldable pub is_head : List ℕ → Bool
-is_head packet =
-    (length packet == 19) && starts_with nat_eq packet head_letters && (slice_index packet 8 == 1) && (slice_index packet 9 == 1)
-    && (little_number 2 (drop 10 packet) == 0) && (little_number 2 (drop 16 packet) == 0) && (slice_index packet 18 == 0)
+is_head packet = (length packet == 19) && (slice_index packet 8 == 1) && is_plain_head (head_of packet)
 
 -- A comment header, whose contents are passed over.
 unfoldable pub is_tags : List ℕ → Bool

@@ -1,6 +1,9 @@
 pub mod Decoding
 pub mod Form
+pub mod Notes
 pub mod Outcomes
 pub mod Progressing
 pub mod Reads
+pub mod Runs
 pub mod Silences
+pub mod Words

@@ -66,3 +66,13 @@ pub record Ended (bytes : List ℕ) (old now : Option (List ℕ)) (fault : Optio
 abbrev pub Decodes : {E : Type 0} → List ℕ → Option (List ℕ) → Option (List ℕ) → Result (Option Fault) E → Type 0
 Decodes bytes old now (Ok fault) = Ended bytes old now fault
 Decodes bytes old now (Err failure) = AppendsFront old now (full bytes)
+
+-- What was added to the output, said of the first bytes alone.
+abbrev pub WritesFirst : List ℕ → Option (List ℕ) → Option (List ℕ) → Status → Type 0
+WritesFirst first old new statuses.Done = Appends old new (full first)
+WritesFirst first old new (statuses.Refused fault) = Appends old new (full first)
+WritesFirst first old new statuses.InputTooLong = Appends old new (full first)
+WritesFirst first old new statuses.Usage = AppendsFront old new (full first)
+WritesFirst first old new statuses.ReadFault = AppendsFront old new (full first)
+WritesFirst first old new statuses.WriteFault = AppendsFront old new (full first)
+WritesFirst first old new statuses.NoMemory = AppendsFront old new (full first)

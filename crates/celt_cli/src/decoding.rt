@@ -7,8 +7,8 @@ ghost use Rattle.celt_cli.specs.Decoding.{silence_of, name_of, fault_at, end_fau
 ghost use Rattle.celt_cli.specs.Silences.{IsSilence, samples_behind};
 ghost use Rattle.celt_cli.specs.Outcomes.{Decodes};
 
-use crate::form::samples;
 use crate::progress::Progress;
+use crate::silence::samples;
 use celt_base::outside::{Failed, Sink};
 use celt_base::status::{Fault, FaultName};
 use ogg_pages::page::PageFault;
@@ -71,12 +71,10 @@ fn write_samples<K: Sink>(
     ensures bytes { WritesAll (K.held output.old) (K.held output.new) result (samples_behind progress.now.pages (page_in page.now)) }
     ensures cause { HasCause (K.faults output.old) (K.faults output.new) result }
 {
-    let count = if progress.pages < 2 {
-        0
-    } else {
-        2 * samples(page) as usize
-    };
-    let (silence, _) = zeros.split_at(count);
+    if progress.pages < 2 {
+        return Ok(());
+    }
+    let (silence, _) = zeros.split_at(2 * samples(page) as usize);
     output.write_all(silence)
 }
 

@@ -1,7 +1,13 @@
 //! The words of the program and its commands over a source and sinks.
 #![tactic(auto)]
 
+pub mod commands;
 pub mod decoding;
-pub mod form;
+pub mod laws;
+pub mod notes;
+pub mod program;
 pub mod progress;
 pub mod reading;
+pub mod silence;
+#[cfg(test)]
+mod tests;

@@ -3,7 +3,7 @@ ghost use Rattle.std.specs.Prelude.{◌≡◌, ◌+◌, ◌*◌, ◌^◌, ◌<�
 ghost use Rattle.std.specs.Ordering.{int_eq};
 ghost use Rattle.ogg_pages.specs.Views.{page_in};
 
-use crate::form::{begins, comments, plays, samples};
+use crate::silence::{begins, comments, plays, samples};
 use ogg_pages::view::PageView;
 
 /// What is kept of the pages that were accepted.

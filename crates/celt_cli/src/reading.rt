@@ -55,11 +55,7 @@ fn read_more<S: Source>(
 }
 
 /// Reads the input to its end, or until more than `limit` bytes were read.
-pub fn read_whole<S: Source>(
-    alloc: Global,
-    limit: u64,
-    input: &mut S,
-) -> Result<Vec<u8>, ReadError>
+pub fn read_whole<S: Source>(alloc: Global, limit: u64, input: &mut S) -> Result<Vec<u8>, ReadError>
     requires { limit ≤ 2 ^ 40 }
     ensures reads { Reads limit (S.left input.old) (S.left input.new) result }
     ensures cause { HasReadCause (S.faults input.old) (S.faults input.new) result }

@@ -1,13 +1,12 @@
 -- What each verdict says of the bytes, and that no later byte changes it.
-use Rattle.std.proofs.Common.{◌≡◌, ℕ, zero, suc, ◌+◌, ◌-◌, ◌*◌, ◌<◌, ◌≤◌, ◌^◌, List, [], ◌∷◌, ◌++◌, length, get_or, take, drop, sum, Bool, true, false, not, nat_lt, refl, sym, ◌∙◌, ap, subst, arith, length-take, length-drop, length-append, get_or-drop, ◌⊎◌, inl, inr}
+use Rattle.std.proofs.Common.{◌≡◌, ℕ, ◌+◌, ◌-◌, ◌≤◌, List, ◌++◌, length, get_or, take, drop, sum, Bool, true, false, not, nat_lt, refl, sym, ◌∙◌, ap, arith, length-take, length-drop}
 use Rattle.std.specs.Prelude.{◌==◌, slice_index, if◌then◌else◌}
 use Rattle.std.proofs.lemmas.List.{get_or-take, take-append-le, drop-append-le, drop-take, take-append-drop, get_or_append_left}
-use Rattle.std.proofs.lemmas.Bool.{cases_lt, eqb-true, eq-eqb, ltb-true, ltb-false, le-ltb, lt-ltb}
+use Rattle.std.proofs.lemmas.Bool.{eqb-true, eq-eqb, ltb-true, ltb-false, le-ltb, lt-ltb}
 use Rattle.ogg_pages.specs.declared.page.Verdict.{Verdict}
 use Rattle.ogg_pages.specs.declared.page.Verdict.TheVariants.{Whole, Need, Fault}
-use Rattle.ogg_pages.specs.declared.page.PageFault.{PageFault}
 use Rattle.ogg_pages.specs.declared.page.PageFault.TheVariants.{BadCapture, BadPageVersion, BadChecksum}
-use Rattle.ogg_pages.specs.Bounds.{segments_of, lacing_of, page_len}
+use Rattle.ogg_pages.specs.Bounds.{lacing_of, page_len}
 use Rattle.ogg_pages.specs.Verdicts.{captures, summed, verdict}
 use Rattle.ogg_pages.specs.Sound.{IsSound, IsCut}
 
@@ -54,7 +53,7 @@ sound_of bytes n h =
       version = eqb-true (slice_index bytes 4) 0 p.version;
       length_is = p.same;
       inside = rw p.same (ltb-false (length bytes) (page_len bytes) p.there);
-      sum_is = rw p.same p.sum_is
+      sum_is = rw p.same p.sum_is;
     }
 
 pub of_sound : (bytes : List ℕ) (n : ℕ) → IsSound bytes n → verdict bytes ≡ Whole n
@@ -71,7 +70,7 @@ cut_of bytes h =
     record {
       captured = p.captured;
       version = eqb-true (slice_index bytes 4) 0 p.version;
-      short = ltb-true (length bytes) (page_len bytes) p.there
+      short = ltb-true (length bytes) (page_len bytes) p.there;
     }
 
 pub of_cut : (bytes : List ℕ) → IsCut bytes → verdict bytes ≡ Need
@@ -86,7 +85,7 @@ page_len-append xs ys whole =
     let first : get_or (xs ++ ys) 26 0 ≡ get_or xs 26 0 = get_or_append_left xs ys 0 26 (omega arith) in
     let rest : drop 27 (xs ++ ys) ≡ drop 27 xs ++ ys = drop-append-le 27 xs ys (omega arith) in
     let lace : take (get_or xs 26 0) (drop 27 xs ++ ys) ≡ take (get_or xs 26 0) (drop 27 xs) =
-      take-append-le (get_or xs 26 0) (drop 27 xs) ys (simp length-drop (omega arith)) in
+    take-append-le (get_or xs 26 0) (drop 27 xs) ys (simp length-drop (omega arith)) in
     let same : lacing_of (xs ++ ys) ≡ lacing_of xs = ap (λ n. take n (drop 27 (xs ++ ys))) first ∙ ap (take (get_or xs 26 0)) rest ∙ lace in
     ap (λ n. 27 + n + sum (lacing_of (xs ++ ys))) first ∙ ap (λ l. 27 + get_or xs 26 0 + sum l) same
 
@@ -98,7 +97,7 @@ page_len-take bytes n e inside =
     let rest : drop 27 (take n bytes) ≡ take m (drop 27 bytes) = ap (λ t. drop 27 (take t bytes)) n_is ∙ drop-take 27 m bytes in
     let there : get_or bytes 26 0 ≤ length (take m (drop 27 bytes)) = simp (length-take, length-drop) (omega arith) in
     let lace : take (get_or bytes 26 0) (take m (drop 27 bytes)) ≡ lacing_of bytes =
-      sym (take-append-le (get_or bytes 26 0) (take m (drop 27 bytes)) (drop m (drop 27 bytes)) there)
-      ∙ ap (take (get_or bytes 26 0)) (take-append-drop m (drop 27 bytes)) in
+    sym (take-append-le (get_or bytes 26 0) (take m (drop 27 bytes)) (drop m (drop 27 bytes)) there)
+    ∙ ap (take (get_or bytes 26 0)) (take-append-drop m (drop 27 bytes)) in
     let same : lacing_of (take n bytes) ≡ lacing_of bytes = ap (λ k. take k (drop 27 (take n bytes))) first ∙ ap (take (get_or bytes 26 0)) rest ∙ lace in
     ap (λ k. 27 + k + sum (lacing_of (take n bytes))) first ∙ ap (λ l. 27 + get_or bytes 26 0 + sum l) same ∙ sym e

@@ -1,5 +1,5 @@
 -- The register of the checksum: it is linear, so that a byte needs one entry of the table.
-use Rattle.std.proofs.Common.{◌≡◌, ℕ, zero, suc, ◌+◌, ◌-◌, ◌*◌, ◌/◌, ◌%◌, ◌^◌, ◌<◌, ◌≤◌, List, [], ◌∷◌, ◌++◌, length, take, drop, replicate, get_or, Bool, true, false, bit_xor, refl, sym, ◌∙◌, ap, subst, zero-add, arith, inl, inr, ◌⊎◌}
+use Rattle.std.proofs.Common.{◌≡◌, ℕ, zero, suc, ◌+◌, ◌-◌, ◌*◌, ◌/◌, ◌%◌, ◌^◌, ◌<◌, ◌≤◌, List, [], ◌∷◌, ◌++◌, length, take, drop, replicate, get_or, Bool, true, false, bit_xor, refl, sym, ◌∙◌, ap, zero-add, arith, inl, inr, ◌⊎◌}
 use Rattle.std.specs.Prelude.{◌==◌, ◌&&◌}
 use Rattle.std.proofs.lemmas.Nat.{xor_comm, xor_lt, xor_shr, xor_block, shr_split, mul-le}
 use Rattle.std.proofs.Math.Nat.{pow-succ'}
@@ -92,10 +92,11 @@ times_power-small (suc k) a h =
     let small : a < 2 ^ 31 = below_half a (2 ^ k) one moved in
     ap (times_power k) (times_x-small a small) ∙ times_power-small k (2 * a) moved ∙ sym e
   where
-  regrouped : (x p : ℕ) → x * (2 * p) ≡ (2 * x) * p
-  regrouped x p = omega arith
-  below_half : (x p : ℕ) → 1 * (2 * x) ≤ p * (2 * x) → (2 * x) * p < 2 ^ 32 → x < 2 ^ 31
-  below_half x p h1 h2 = omega arith
+    regrouped : (x p : ℕ) → x * (2 * p) ≡ (2 * x) * p
+    regrouped x p = omega arith
+
+    below_half : (x p : ℕ) → 1 * (2 * x) ≤ p * (2 * x) → (2 * x) * p < 2 ^ 32 → x < 2 ^ 31
+    below_half x p h1 h2 = omega arith
 
 -- the upper byte and the lower three go apart
 pub after_byte-apart : (r b : ℕ) → r < 2 ^ 32 → b < 2 ^ 8 → after_byte r b ≡ bit_xor (times_power 8 (bit_xor (r / 2 ^ 24) b * 2 ^ 24)) (r % 2 ^ 24 * 256)
@@ -111,7 +112,7 @@ after_byte-apart r b hr hb =
     let joined : bit_xor (hi * 2 ^ 24 + lo) (b * 2 ^ 24 + 0) ≡ top * 2 ^ 24 + bit_xor lo 0 = xor_block 24 hi b lo 0 lo_small (omega arith) in
     let apart : bit_xor (top * 2 ^ 24) lo ≡ top * 2 ^ 24 + lo = xor_shifted top 24 lo lo_small in
     let sum : bit_xor r (b * 2 ^ 24) ≡ bit_xor (top * 2 ^ 24) lo =
-      ap (λ t. bit_xor t (b * 2 ^ 24)) split ∙ ap (bit_xor (hi * 2 ^ 24 + lo)) b_is ∙ joined ∙ ap (λ t. top * 2 ^ 24 + t) (xor_zero_r lo) ∙ sym apart in
+    ap (λ t. bit_xor t (b * 2 ^ 24)) split ∙ ap (bit_xor (hi * 2 ^ 24 + lo)) b_is ∙ joined ∙ ap (λ t. top * 2 ^ 24 + t) (xor_zero_r lo) ∙ sym apart in
     ap (times_power 8) sum
     ∙ times_power-xor 8 (top * 2 ^ 24) lo (omega arith) (omega arith)
     ∙ ap (bit_xor (times_power 8 (top * 2 ^ 24))) (times_power-small 8 lo (omega arith))

@@ -1,12 +1,12 @@
 -- The pages of a byte list, page by page, and what more bytes do to them.
-use Rattle.std.proofs.Common.{◌≡◌, ℕ, zero, suc, ◌+◌, ◌-◌, ◌<◌, ◌≤◌, List, [], ◌∷◌, ◌++◌, length, take, drop, refl, sym, ◌∙◌, ap, subst, arith, length-drop, append-nil}
-use Rattle.std.proofs.lemmas.List.{take-append-le, drop-append-le}
+use Rattle.std.proofs.Common.{◌≡◌, ℕ, zero, suc, ◌<◌, ◌≤◌, List, [], ◌∷◌, ◌++◌, length, take, drop, refl, sym, ◌∙◌, ap, subst, arith, length-drop, append-nil}
+use Rattle.std.proofs.lemmas.List.{drop-append-le}
 use Rattle.ogg_pages.specs.declared.page.Verdict.{Verdict}
 use Rattle.ogg_pages.specs.declared.page.Verdict.TheVariants.{Whole, Need, Fault}
 use Rattle.ogg_pages.specs.declared.page.PageFault.{PageFault}
 use Rattle.ogg_pages.specs.Verdicts.{verdict, captures}
 use Rattle.ogg_pages.specs.Fields.{Page, page_of}
-use Rattle.ogg_pages.specs.Stream.{Stream, Ending, Broken, ending_of, ending_by, no_page, with_page, after_verdict, stream_in, stream}
+use Rattle.ogg_pages.specs.Stream.{Stream, Ending, Sound, Cut, Broken, ending_of, ending_by, no_page, with_page, after_verdict, stream_in, stream}
 use Rattle.ogg_pages.proofs.Judged.{sound_of}
 use Rattle.ogg_pages.proofs.Later.{fault_stays, whole_stays, page_of-take-append}
 
@@ -74,27 +74,60 @@ pub record GoesOn (before after : Stream) : Type 0 where
   pub more_pages : List Page
   pub pages : after.pages ≡ before.pages ++ more_pages
   pub broken : (fault : PageFault) → before.ending ≡ Broken fault → after ≡ before
+  pub unsound : before.ending ≡ Cut → after.pages ≡ before.pages → after.ending ≡ Sound → ⊥
 
 no_break : (bytes : List ℕ) (fault : PageFault) → verdict bytes ≡ Need → ending_of bytes ≡ Broken fault → ⊥
 no_break [] fault h b = cc
 no_break (byte ∷ bytes) fault h b = let c : ending_by Need ≡ Broken fault = ap ending_by (sym h) ∙ b in cc
 
+-- bytes in which no page begins do not end soundly, but for none
+not_sound : (byte : ℕ) (bytes : List ℕ) (v : Verdict) → verdict (byte ∷ bytes) ≡ v → (stream (byte ∷ bytes)).pages ≡ [] → (stream (byte ∷ bytes)).ending ≡ Sound → ⊥
+not_sound byte bytes (Whole n) h none sound =
+    let pages : (with_page (page_of (take n (byte ∷ bytes))) (stream (drop n (byte ∷ bytes)))).pages ≡ [] = ap (λ (s : Stream). s.pages) (sym (stream-Whole (byte ∷ bytes) n h)) ∙ none in
+    cc
+not_sound byte bytes Need h none sound =
+    let e : ending_by Need ≡ Sound = ap ending_by (sym h) ∙ ap (λ (s : Stream). s.ending) (sym (stream-Need (byte ∷ bytes) h)) ∙ sound in
+    cc
+not_sound byte bytes (Fault fault) h none sound =
+    let e : ending_by (Fault fault) ≡ Sound = ap ending_by (sym h) ∙ ap (λ (s : Stream). s.ending) (sym (stream-Fault (byte ∷ bytes) fault h)) ∙ sound in
+    cc
+
+cut_not_sound : (bytes more : List ℕ) → ending_of bytes ≡ Cut → (stream (bytes ++ more)).pages ≡ [] → (stream (bytes ++ more)).ending ≡ Sound → ⊥
+cut_not_sound [] more c none sound = cc
+cut_not_sound (byte ∷ bytes) more c none sound = not_sound byte (bytes ++ more) (verdict (byte ∷ (bytes ++ more))) refl none sound
+
 goes_on_cut : (bytes more : List ℕ) → verdict bytes ≡ Need → GoesOn (stream bytes) (stream (bytes ++ more))
 goes_on_cut bytes more h =
     subst (λ s. GoesOn s (stream (bytes ++ more))) (sym (stream-Need bytes h))
-      (record { more_pages = (stream (bytes ++ more)).pages; pages = refl; broken = λ fault b. absurd (no_break bytes fault h b) })
+    (record { more_pages = (stream (bytes ++ more)).pages; pages = refl; broken = λ fault b. absurd (no_break bytes fault h b); unsound = λ c same sound. cut_not_sound bytes more c same sound })
+
+broken_not_cut : (fault : PageFault) → Broken fault ≡ Cut → ⊥
+broken_not_cut fault e = cc
 
 goes_on_broken : (bytes more : List ℕ) (fault : PageFault) → verdict bytes ≡ Fault fault → GoesOn (stream bytes) (stream (bytes ++ more))
 goes_on_broken bytes more fault h =
     let later = fault_stays bytes more fault h in
     let same : no_page (bytes ++ more) ≡ no_page bytes =
-      ap (λ (e : Ending). record { pages = []; ending = e }) (ending_of-Fault (bytes ++ more) fault later ∙ sym (ending_of-Fault bytes fault h)) in
+    ap (λ (e : Ending). record { pages = []; ending = e }) (ending_of-Fault (bytes ++ more) fault later ∙ sym (ending_of-Fault bytes fault h)) in
     let whole : stream (bytes ++ more) ≡ stream bytes = stream-Fault (bytes ++ more) fault later ∙ same ∙ sym (stream-Fault bytes fault h) in
-    record { more_pages = []; pages = ap (λ (s : Stream). s.pages) whole ∙ sym (append-nil (stream bytes).pages); broken = λ f b. whole }
+    record {
+      more_pages = [];
+      pages = ap (λ (s : Stream). s.pages) whole ∙ sym (append-nil (stream bytes).pages);
+      broken = λ f b. whole;
+      unsound = λ c same sound. broken_not_cut fault (sym (ending_of-Fault bytes fault h) ∙ ap (λ (s : Stream). s.ending) (sym (stream-Fault bytes fault h)) ∙ c);
+    }
+
+tail_of : (page : Page) (xs ys : List Page) → page ∷ xs ≡ page ∷ ys → xs ≡ ys
+tail_of page xs ys e = cc
 
 with_page-GoesOn : (page : Page) (s t : Stream) → GoesOn s t → GoesOn (with_page page s) (with_page page t)
 with_page-GoesOn page s t g =
-    record { more_pages = g.more_pages; pages = ap (λ l. page ∷ l) g.pages; broken = λ fault b. ap (with_page page) (g.broken fault b) }
+    record {
+      more_pages = g.more_pages;
+      pages = ap (λ l. page ∷ l) g.pages;
+      broken = λ fault b. ap (with_page page) (g.broken fault b);
+      unsound = λ c same sound. g.unsound c (tail_of page t.pages s.pages same) sound;
+    }
 
 -- one page, and what goes on behind it
 goes_on_once : (bytes more : List ℕ) (v : Verdict) → verdict bytes ≡ v → ((l : List ℕ) → length l < length bytes → GoesOn (stream l) (stream (l ++ more)))
@@ -106,9 +139,9 @@ goes_on_once bytes more (Whole n) e again =
     let page = page_of (take n bytes) in
     let behind : drop n (bytes ++ more) ≡ drop n bytes ++ more = drop-append-le n bytes more s.inside in
     let after : stream (bytes ++ more) ≡ with_page page (stream (drop n bytes ++ more)) =
-      stream-Whole (bytes ++ more) n (whole_stays bytes more n e)
-      ∙ ap (λ p. with_page p (stream (drop n (bytes ++ more)))) (page_of-take-append bytes more n s.inside)
-      ∙ ap (λ l. with_page page (stream l)) behind in
+    stream-Whole (bytes ++ more) n (whole_stays bytes more n e)
+    ∙ ap (λ p. with_page p (stream (drop n (bytes ++ more)))) (page_of-take-append bytes more n s.inside)
+    ∙ ap (λ l. with_page page (stream l)) behind in
     let goes = with_page-GoesOn page (stream (drop n bytes)) (stream (drop n bytes ++ more)) (again (drop n bytes) (shorter bytes n e)) in
     subst (λ t. GoesOn (stream bytes) t) (sym after) (subst (λ s. GoesOn s (with_page page (stream (drop n bytes ++ more)))) (sym (stream-Whole bytes n e)) goes)
 

@@ -1,12 +1,12 @@
 -- Writing a page into its room, part by part.
-use Rattle.std.proofs.Common.{◌≡◌, ℕ, zero, suc, ◌+◌, ◌-◌, ◌*◌, ◌/◌, ◌%◌, ◌<◌, ◌≤◌, List, [], ◌∷◌, ◌++◌, length, get_or, take, drop, sum, replicate, refl, sym, ◌∙◌, ap, subst, arith, append_assoc, length-append, length-take, length-drop, drop-drop, add-one}
+use Rattle.std.proofs.Common.{◌≡◌, ℕ, ◌+◌, ◌/◌, ◌%◌, ◌<◌, ◌≤◌, List, [], ◌∷◌, ◌++◌, length, get_or, take, drop, replicate, refl, sym, ◌∙◌, ap, arith, append_assoc, length-append, drop-drop, add-one}
 use Rattle.std.proofs.Math.Seq.{take-append_seam, drop-append-add, take-suc-set}
 use Rattle.std.proofs.lemmas.List.{take-replicate}
 use Rattle.std.proofs.Math.ListN.{length-replicate, set}
 use Rattle.byteorder.specs.Endian.{little_bytes}
 use Rattle.ogg_pages.specs.Fields.{Page}
 use Rattle.ogg_pages.specs.Checksum.{checksum}
-use Rattle.ogg_pages.specs.Spelling.{header, with_checksum, spelling, packet_lacing, packet_page}
+use Rattle.ogg_pages.specs.Spelling.{header, with_checksum, spelling, packet_lacing}
 
 pub length-packet_lacing : (len : ℕ) → length (packet_lacing len) ≡ len / 255 + 1
 length-packet_lacing len = length-append (replicate (len / 255) 255) (len % 255 ∷ []) ∙ ap (λ n. n + 1) (length-replicate (len / 255) 255)
@@ -18,10 +18,10 @@ put_behind front bytes old at next e n =
     let rest = drop at old in
     let kept : take at (front ++ rest) ≡ front = ap (λ t. take t (front ++ rest)) e ∙ take-append_seam front rest in
     let behind : drop next (front ++ rest) ≡ drop next old =
-      ap (λ t. drop t (front ++ rest)) (n ∙ ap (λ t. t + length bytes) e)
-      ∙ drop-append-add front rest (length bytes)
-      ∙ drop-drop (length bytes) at old
-      ∙ ap (λ t. drop t old) (sym n) in
+    ap (λ t. drop t (front ++ rest)) (n ∙ ap (λ t. t + length bytes) e)
+    ∙ drop-append-add front rest (length bytes)
+    ∙ drop-drop (length bytes) at old
+    ∙ ap (λ t. drop t old) (sym n) in
     ap (λ l. l ++ (bytes ++ drop next (front ++ rest))) kept ∙ ap (λ l. front ++ (bytes ++ l)) behind ∙ sym (append_assoc front bytes (drop next old))
 
 -- the checksum put into the header
@@ -39,7 +39,7 @@ page_written p out old end e l =
     let rest = drop end old in
     let first : take end out ≡ with_checksum p 0 = ap (take end) e ∙ ap (λ t. take t (with_checksum p 0 ++ rest)) l ∙ take-append_seam (with_checksum p 0) rest in
     let regrouped : (s : ℕ) → with_checksum p s ++ rest ≡ header p s ++ (p.lacing ++ (p.body ++ rest)) = λ s.
-      append_assoc (header p s ++ p.lacing) p.body rest ∙ append_assoc (header p s) p.lacing (p.body ++ rest) in
+    append_assoc (header p s ++ p.lacing) p.body rest ∙ append_assoc (header p s) p.lacing (p.body ++ rest) in
     let s = checksum (with_checksum p 0) in
     ap (λ l. take 22 out ++ (little_bytes 4 (checksum l) ++ drop 26 out)) first
     ∙ ap (λ l. take 22 l ++ (little_bytes 4 s ++ drop 26 l)) (e ∙ regrouped 0)
@@ -53,9 +53,9 @@ length-spelling p = length-with_checksum p (checksum (with_checksum p 0)) ∙ sy
 -- the header of a page of one packet, from the bytes of its numbers
 pub header_from : (flags z q : ℕ) (packet g s : List ℕ) (n : ℕ) → g ≡ little_bytes 8 z → s ≡ little_bytes 4 q → n ≡ length (packet_lacing (length packet))
     → ◌≡◌ {A = List ℕ}
-      (79 ∷ 103 ∷ 103 ∷ 83 ∷ 0 ∷ flags ∷ get_or g 0 0 ∷ get_or g 1 0 ∷ get_or g 2 0 ∷ get_or g 3 0 ∷ get_or g 4 0 ∷ get_or g 5 0 ∷ get_or g 6 0 ∷ get_or g 7 0
-        ∷ 1 ∷ 0 ∷ 0 ∷ 0 ∷ get_or s 0 0 ∷ get_or s 1 0 ∷ get_or s 2 0 ∷ get_or s 3 0 ∷ 0 ∷ 0 ∷ 0 ∷ 0 ∷ n ∷ [])
-      (79 ∷ 103 ∷ 103 ∷ 83 ∷ 0 ∷ flags ∷ little_bytes 8 z ++ little_bytes 4 1 ++ little_bytes 4 q ++ little_bytes 4 0 ++ length (packet_lacing (length packet)) ∷ [])
+    (79 ∷ 103 ∷ 103 ∷ 83 ∷ 0 ∷ flags ∷ get_or g 0 0 ∷ get_or g 1 0 ∷ get_or g 2 0 ∷ get_or g 3 0 ∷ get_or g 4 0 ∷ get_or g 5 0 ∷ get_or g 6 0 ∷ get_or g 7 0
+    ∷ 1 ∷ 0 ∷ 0 ∷ 0 ∷ get_or s 0 0 ∷ get_or s 1 0 ∷ get_or s 2 0 ∷ get_or s 3 0 ∷ 0 ∷ 0 ∷ 0 ∷ 0 ∷ n ∷ [])
+    (79 ∷ 103 ∷ 103 ∷ 83 ∷ 0 ∷ flags ∷ little_bytes 8 z ++ little_bytes 4 1 ++ little_bytes 4 q ++ little_bytes 4 0 ++ length (packet_lacing (length packet)) ∷ [])
 header_from flags z q packet g s n eg es en = rw (eg, es, en) refl
 
 -- the last of some lacing values written over one of many

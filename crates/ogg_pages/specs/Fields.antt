@@ -24,5 +24,5 @@ page_of bytes = record {
   serial = little_number 4 (drop 14 bytes);
   sequence = little_number 4 (drop 18 bytes);
   lacing = lacing_of bytes;
-  body = body_of bytes
+  body = body_of bytes;
 }

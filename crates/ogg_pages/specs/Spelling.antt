@@ -1,5 +1,5 @@
 -- A page as it is written (RFC 3533, section 6).
-use Rattle.std.specs.Prelude.{◌≡◌, ℕ, ℤ, ◌+◌, ◌/◌, ◌%◌, ◌^◌, ◌<◌, ◌≤◌, List, [], ◌∷◌, ◌++◌, length, sum, replicate, slice_index, FitsSigned}
+use Rattle.std.specs.Prelude.{◌≡◌, ℕ, ℤ, ◌/◌, ◌%◌, ◌^◌, ◌<◌, ◌≤◌, List, [], ◌∷◌, ◌++◌, length, sum, replicate, slice_index, FitsSigned}
 use Rattle.std.specs.Int.{w64, cast_unsigned}
 use Rattle.byteorder.specs.Endian.{little_bytes}
 use Rattle.ogg_pages.specs.Fields.{Page}
@@ -45,5 +45,5 @@ packet_page flags granule sequence packet = record {
   serial = 1;
   sequence = sequence;
   lacing = packet_lacing (length packet);
-  body = packet
+  body = packet;
 }

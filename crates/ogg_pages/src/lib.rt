@@ -5,5 +5,7 @@ pub mod checksum;
 pub mod laws;
 pub mod page;
 pub mod reader;
+#[cfg(test)]
+mod tests;
 pub mod view;
 pub mod writer;

@@ -1,7 +1,6 @@
 //! A reader of pages from pieces of bytes. It holds at most one page's bytes and takes no memory after
 //! it was made.
 ghost use Rattle.std.specs.Prelude.{◌≡◌, ◌+◌, ◌-◌, ◌≤◌, List, ℕ, [], ◌++◌, length, min, drop, take, IfOk, vec_capacity};
-
 ghost use Rattle.ogg_pages.specs.Steps.{IsStep};
 
 use crate::page::{MAX_PAGE_LEN, PageFault, Verdict, judge};

@@ -69,7 +69,9 @@ impl<'a> PageView<'a> {
     pub fn body(&self) -> &'a [u8]
         ensures { result.now ≡ (page_in self.now).body }
     {
-        let (_, rest) = self.bytes.split_at(HEADER_LEN + usize::from(self.bytes[26]));
+        let (_, rest) = self
+            .bytes
+            .split_at(HEADER_LEN + usize::from(self.bytes[26]));
         rest
     }
 

@@ -26,8 +26,8 @@ fn blank_header(flags: u8, granule: i64, sequence: u32, packet: &[u8]) -> [u8; 2
     let [s0, s1, s2, s3] = sequence.to_le_bytes();
     let segments = (packet.len() / 255 + 1) as u8;
     [
-        b'O', b'g', b'g', b'S', 0, flags, g0, g1, g2, g3, g4, g5, g6, g7, 1, 0, 0, 0, s0, s1, s2, s3, 0,
-        0, 0, 0, segments,
+        b'O', b'g', b'g', b'S', 0, flags, g0, g1, g2, g3, g4, g5, g6, g7, 1, 0, 0, 0, s0, s1, s2,
+        s3, 0, 0, 0, 0, segments,
     ]
 }
 

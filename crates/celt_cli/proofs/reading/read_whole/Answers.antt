@@ -1,4 +1,4 @@
-use Rattle.std.proofs.Common.{◌≡◌, ◌≤◌, List, ℕ, [], refl, arith}
+use Rattle.std.proofs.Common.{◌≤◌, [], refl, arith}
 use Rattle.std.proofs.KnownBytes.{Consumes-more}
 use Rattle.celt_cli.proofs.reading.read_whole.Goals as goal
 
@@ -10,7 +10,7 @@ loop-input-preserved g c =
     let more : g.S.Source.faults c.loop-input.input ≤ g.S.Source.faults c.read_more.new.input = c.in-Ok-true.ensures.cause in
     record {
       taken = Consumes-more (left c.args.input.now) (left c.loop-input.input) (left c.read_more.new.input) [] c.loop-input.bytes.items c.read_more.new.bytes.items
-        refl grows.0 c.loop-input.invariant.taken grows.1;
+          refl grows.0 c.loop-input.invariant.taken grows.1;
       kept = omega (arith, kept, more);
-      room = c.loop-input.invariant.room
+      room = c.loop-input.invariant.room;
     }

@@ -6,7 +6,7 @@ abbrev pub invariant-loop-input : goal.invariant-loop-input
 invariant-loop-input g l = record {
   taken : Consumes (g.S.Source.left l.fn.input) (g.S.Source.left l.input) l.bytes.items;
   kept : g.S.Source.faults l.fn.input ≤ g.S.Source.faults l.input;
-  room : vec_len l.buf ≡ 65536
+  room : vec_len l.buf ≡ 65536;
 }
 
 abbrev pub decreases-loop-input : goal.decreases-loop-input

@@ -1,4 +1,4 @@
-use Rattle.std.proofs.Common.{◌≤◌, ◌<◌, ◌^◌, get_or, ap, ◌∙◌, sum, arith}
+use Rattle.std.proofs.Common.{◌≤◌, ap, ◌∙◌, sum, arith}
 use Rattle.ogg_pages.specs.Bounds.{lacing_of}
 use Rattle.ogg_pages.proofs.Lengths.{lacing-sum}
 use Rattle.ogg_pages.proofs.page.page_length.Goals as goal

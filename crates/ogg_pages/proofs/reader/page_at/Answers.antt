@@ -1,4 +1,4 @@
-use Rattle.std.proofs.Common.{◌≡◌, ◌∙◌, sym, length}
+use Rattle.std.proofs.Common.{◌∙◌, sym}
 use Rattle.ogg_pages.proofs.Judged.{sound_of, page_len-take}
 use Rattle.ogg_pages.proofs.reader.page_at.Goals as goal
 

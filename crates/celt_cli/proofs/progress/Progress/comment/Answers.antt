@@ -1,4 +1,4 @@
-use Rattle.std.proofs.Common.{◌≡◌, ◌∙◌, sym, refl}
+use Rattle.std.proofs.Common.{◌∙◌, sym, refl}
 use Rattle.ogg_pages.specs.Views.{page_in}
 use Rattle.celt_cli.proofs.Accepting.{tags_refused, tags_accepted}
 use Rattle.celt_cli.proofs.progress.Progress.comment.Goals as goal

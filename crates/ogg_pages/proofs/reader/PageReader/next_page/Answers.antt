@@ -1,6 +1,4 @@
-use Rattle.std.proofs.Common.{◌≡◌, ◌∙◌, sym, ap, arith, length, length-take}
-use Rattle.ogg_pages.specs.Bounds.{page_len}
-use Rattle.ogg_pages.specs.Sound.{IsSound}
+use Rattle.std.proofs.Common.{◌∙◌, sym}
 use Rattle.ogg_pages.proofs.Judged.{sound_of, page_len-take}
 use Rattle.ogg_pages.proofs.reader.PageReader.next_page.Goals as goal
 

@@ -1,0 +1,130 @@
+-- From the first bytes of an input to the whole input.
+use Rattle.std.proofs.Common.{◌≡◌, ℕ, ◌+◌, ◌<◌, ◌≤◌, Bool, true, false, List, [], ◌++◌, length, take, drop, replicate, refl, sym, ◌∙◌, ap, subst, arith, length-append, append-nil, Option, Some, None, nat_lt, Result, Ok, Err, Vec, IfOk, IfSome, ◌⊎◌, inl, inr}
+use Rattle.std.specs.Io.KnownBytes.{Appends, Consumes, IsAtEnd}
+use Rattle.std.proofs.Math.ListN.{length-replicate}
+use Rattle.std.proofs.lemmas.List.{take-append-drop, take-replicate, take-append-le, take_all}
+use Rattle.std.proofs.lemmas.Bool.{ltb-false, lt-ltb, cases_lt}
+use Rattle.std.specs.declared.alloc.Global.{Global}
+use Rattle.celt_base.specs.declared.status.Fault.{Fault}
+use Rattle.celt_base.specs.declared.status.Status.{Status}
+use Rattle.celt_base.specs.declared.status.Status.TheVariants as statuses
+use Rattle.celt_base.specs.Outside.{AppendsFront}
+use Rattle.celt_base.proofs.Causes.{longer_front}
+use Rattle.celt_cli.specs.declared.reading.ReadError.{ReadError}
+use Rattle.celt_cli.specs.Decoding.{full, fault_of}
+use Rattle.celt_cli.specs.Silences.{IsSilence}
+use Rattle.celt_cli.specs.Outcomes.{is_end_name, cut_status_by, cut_status, status_by, wanted, Answers, Writes, WritesFirst}
+use Rattle.celt_cli.proofs.Prefixes.{full-append, stays}
+
+-- as many zero bytes
+zeros_silent : (n : ℕ) (xs : List ℕ) → n ≡ 1920 → xs ≡ replicate n 0 → IsSilence xs
+zeros_silent n xs e h =
+    let len : length xs ≡ n = ap length h ∙ length-replicate n 0 in
+    record { long = omega arith; zero_bytes = λ count few. ap (take count) h ∙ take-replicate count n 0 (omega arith) }
+
+pub silence_made : (r : Result (Vec ℕ Global) ReadError) → IfOk r (λ v. v.items ≡ replicate 1920 0) → IfOk r (λ v. IsSilence v.items)
+silence_made (Ok v) h = zeros_silent 1920 v.items refl h
+silence_made (Err e) h = tt
+
+-- a front of the samples of a front is one of all
+pub front_longer : (xs : List ℕ) (limit : ℕ) (old new : Option (List ℕ)) → AppendsFront old new (full (take limit xs)) → AppendsFront old new (full xs)
+front_longer xs limit old new h =
+    let a = full-append (take limit xs) (drop limit xs) in
+    let same : full xs ≡ full (take limit xs) ++ a.0 = ap full (sym (take-append-drop limit xs)) ∙ a.1 in
+    subst (AppendsFront old new) (sym same) (longer_front old new (full (take limit xs)) a.0 h)
+
+-- the whole input is read where it is no longer than the limit
+whole : (limit : ℕ) (xs : List ℕ) → nat_lt limit (length xs) ≡ false → take limit xs ≡ xs
+whole limit xs h = take_all limit xs (ltb-false limit (length xs) h)
+
+done_not_long : (long : Bool) (fault : Option Fault) → status_by long fault ≡ statuses.Done → long ≡ false
+done_not_long false fault h = refl
+done_not_long true None h = cc
+done_not_long true (Some fault) h = by_name (is_end_name fault.name) refl where
+  by_name : (b : Bool) → is_end_name fault.name ≡ b → true ≡ false
+  by_name true e = let g : statuses.InputTooLong ≡ statuses.Done = ap (λ b. cut_status_by b fault) (sym e) ∙ h in cc
+  by_name false e = let g : statuses.Refused fault ≡ statuses.Done = ap (λ b. cut_status_by b fault) (sym e) ∙ h in cc
+
+-- an input that goes on is refused only for a fault that no later byte mends
+refused_long : (fault : Option Fault) (f : Fault) → cut_status fault ≡ statuses.Refused f → (fault ≡ Some f) × (is_end_name f.name ≡ false)
+refused_long None f h = let g : ⊥ = cc in absurd g
+refused_long (Some fault) f h = by_name (is_end_name fault.name) refl where
+  by_name : (b : Bool) → is_end_name fault.name ≡ b → (Some fault ≡ Some f) × (is_end_name f.name ≡ false)
+  by_name true e = let g : statuses.InputTooLong ≡ statuses.Refused f = ap (λ b. cut_status_by b fault) (sym e) ∙ h in let z : ⊥ = cc in absurd z
+  by_name false e =
+      let g : statuses.Refused fault ≡ statuses.Refused f = ap (λ b. cut_status_by b fault) (sym e) ∙ h in
+      let same : fault ≡ f = cc in
+      (ap Some same, ap (λ (x : Fault). is_end_name x.name) (sym same) ∙ e)
+
+full_refused : (limit : ℕ) (xs : List ℕ) (f : Fault) (long : Bool) → nat_lt limit (length xs) ≡ long → status_by long (fault_of (take limit xs)) ≡ statuses.Refused f → full (take limit xs) ≡ full xs
+full_refused limit xs f false e h = ap full (whole limit xs e)
+full_refused limit xs f true e h =
+    let r = refused_long (fault_of (take limit xs)) f h in
+    sym (stays (take limit xs) (drop limit xs) f r.0 r.1).samples ∙ ap full (take-append-drop limit xs)
+
+-- the outcome of the first bytes is that of the input
+pub finish : (limit : ℕ) (xs : List ℕ) (old new : Option (List ℕ)) (status : Status) → Answers (wanted limit xs) status → WritesFirst (take limit xs) old new status
+    → Writes limit xs old new status
+unfolding wanted
+finish limit xs old new statuses.Done a w = subst (Appends old new) (ap full (whole limit xs (done_not_long (nat_lt limit (length xs)) (fault_of (take limit xs)) a))) w
+finish limit xs old new (statuses.Refused f) a w = subst (Appends old new) (full_refused limit xs f (nat_lt limit (length xs)) refl a) w
+finish limit xs old new statuses.InputTooLong a w = w
+finish limit xs old new statuses.Usage a w = absurd a
+finish limit xs old new statuses.ReadFault a w = front_longer xs limit old new w
+finish limit xs old new statuses.WriteFault a w = front_longer xs limit old new w
+finish limit xs old new statuses.NoMemory a w = front_longer xs limit old new w
+
+-- ---- what was read of the input
+
+-- the bytes that were read begin the input, and are all of it where they are no more than the limit
+record Begins (limit : ℕ) (xs got : List ℕ) : Type 0 where
+  pub first : take limit xs ≡ take limit got
+  pub long : nat_lt limit (length xs) ≡ nat_lt limit (length got)
+
+begins : (limit : ℕ) (xs got ys : List ℕ) → xs ≡ got ++ ys → (length got ≤ limit → ys ≡ []) → Begins limit xs got
+begins limit xs got ys e end = by_len (cases_lt limit (length got)) where
+  by_len : (limit < length got) ⊎ (length got ≤ limit) → Begins limit xs got
+  by_len (inl past) =
+      let len : length xs ≡ length got + length ys = ap length e ∙ length-append got ys in
+      record {
+        first = ap (take limit) e ∙ take-append-le limit got ys (omega arith);
+        long = lt-ltb limit (length xs) (omega arith) ∙ sym (lt-ltb limit (length got) past);
+      }
+  by_len (inr within) =
+      let same : xs ≡ got = e ∙ ap (λ l. got ++ l) (end within) ∙ append-nil got in
+      record { first = ap (take limit) same; long = ap (λ l. nat_lt limit (length l)) same }
+
+begins_input : (limit : ℕ) (old new : Option (List ℕ)) (got : List ℕ) → Consumes old new got → (length got ≤ limit → IsAtEnd new) → IfSome old (λ xs. Begins limit xs got)
+begins_input limit None new got c end = tt
+begins_input limit (Some xs) None got c end = absurd c
+begins_input limit (Some xs) (Some ys) got c end = begins limit xs got ys c end
+
+-- what holds of the known bytes
+if_some : (o : Option (List ℕ)) (P Q : List ℕ → Type 0) → ((xs : List ℕ) → P xs → Q xs) → IfSome o P → IfSome o Q
+if_some None P Q f p = tt
+if_some (Some xs) P Q f p = f xs p
+
+pub record FirstDecoded (limit : ℕ) (got : List ℕ) (long : Bool) (first : List ℕ) : Type 0 where
+  pub first_is : first ≡ take limit got
+  pub long_is : long ≡ nat_lt limit (length got)
+
+answers_at : (limit : ℕ) (xs got first : List ℕ) (long : Bool) (status : Status) → FirstDecoded limit got long first → Answers (status_by long (fault_of first)) status → Begins limit xs got
+    → Answers (wanted limit xs) status
+unfolding wanted
+answers_at limit xs got first long status f a b =
+    let one = subst (λ l. Answers (status_by long (fault_of l)) status) (f.first_is ∙ sym b.first) a in
+    subst (λ t. Answers (status_by t (fault_of (take limit xs))) status) (f.long_is ∙ sym b.long) one
+
+pub answers_input : (limit : ℕ) (old new : Option (List ℕ)) (got first : List ℕ) (long : Bool) (status : Status)
+    → Consumes old new got × (length got ≤ limit → IsAtEnd new) → FirstDecoded limit got long first → Answers (status_by long (fault_of first)) status
+    → IfSome old (λ xs. Answers (wanted limit xs) status)
+answers_input limit old new got first long status r f a =
+    if_some old (λ xs. Begins limit xs got) (λ xs. Answers (wanted limit xs) status) (λ xs b. answers_at limit xs got first long status f a b) (begins_input limit old new got r.0 r.1)
+
+pub writes_input : (limit : ℕ) (old new : Option (List ℕ)) (got first : List ℕ) (long : Bool) (status : Status) (before now : Option (List ℕ))
+    → Consumes old new got × (length got ≤ limit → IsAtEnd new) → FirstDecoded limit got long first → Answers (status_by long (fault_of first)) status → WritesFirst first before now status
+    → IfSome old (λ xs. Writes limit xs before now status)
+writes_input limit old new got first long status before now r f a w =
+    if_some old (λ xs. Begins limit xs got) (λ xs. Writes limit xs before now status)
+    (λ xs b. finish limit xs before now status (answers_at limit xs got first long status f a b) (subst (λ l. WritesFirst l before now status) (f.first_is ∙ sym b.first) w))
+    (begins_input limit old new got r.0 r.1)

@@ -1,0 +1,4 @@
+pub mod Costs
+pub mod Rows
+pub mod Tables
+pub mod Vectors

@@ -1,0 +1,7 @@
+pub mod Cursors
+pub mod Fields
+pub mod Parts
+pub mod Readers
+pub mod Reading
+pub mod Samples
+pub mod Spellings
