@@ -12,7 +12,7 @@ use crate::question::Question;
 pub struct Enter {
     pub band: u8,
     pub channel: u8,
-    /// The time-frequency change, above 0 for more resolution in time (RFC 6716, section 4.3.4.5).
+    /// The time-frequency change (RFC 6716, section 4.3.4.5): above 0 the band has fewer blocks, below 0 more.
     pub tf: i32,
     /// The number of short blocks that the band's coefficients are from.
     pub blocks: u32,

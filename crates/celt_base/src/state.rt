@@ -85,6 +85,6 @@ pub struct Allocation {
     pub pulses: [i32; 21],
     /// For each band, the bits of its fine energy in each channel.
     pub fine: [u32; 21],
-    /// For each band, whether it comes first when the bits at the end are given out.
+    /// For each band, whether the bits left at the end reach it only in their second round.
     pub priority: [bool; 21],
 }
