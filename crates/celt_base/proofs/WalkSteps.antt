@@ -1,5 +1,5 @@
 -- How walks are joined: what two scripts add one after the other, and a walk that is on its way.
-use Rattle.std.proofs.Common.{◌≡◌, ℕ, ◌+◌, ℤ, List, [], ◌∷◌, ◌++◌, length, refl, sym, ◌∙◌, ap, subst, append_assoc, length-append, arith}
+use Rattle.std.proofs.Common.{◌≡◌, ℕ, ◌+◌, ℤ, List, [], ◌∷◌, ◌++◌, length, refl, sym, ◌∙◌, ap, subst, append_assoc, length-append, arith, Bool, true, false, if◌then◌else◌}
 use Rattle.std.proofs.lemmas.List.{append-nil}
 use Rattle.celt_base.specs.declared.coder.Enter.{Enter}
 use Rattle.celt_base.specs.declared.coder.Place.{Place}
@@ -181,6 +181,21 @@ module _ {C H : Type 0} {coder : CoderCalls C} {chooser : ChooserCalls H} where
     pace = g.pace;
     count = g.count;
   }
+
+  -- the script that a test chooses
+  pub when_true : {A : Type 0} {value : A} {c d : C} {h k : H} (test : Bool) (first second : Script A)
+      → test ≡ true
+      → Walked coder chooser first value c h d k
+      → Walked coder chooser (if test then first else second) value c h d k
+  when_true {value = value} {c = c} {d = d} {h = h} {k = k} test first second e w =
+      subst (λ t. Walked coder chooser (if t then first else second) value c h d k) (sym e) w
+
+  pub when_false : {A : Type 0} {value : A} {c d : C} {h k : H} (test : Bool) (first second : Script A)
+      → test ≡ false
+      → Walked coder chooser second value c h d k
+      → Walked coder chooser (if test then first else second) value c h d k
+  when_false {value = value} {c = c} {d = d} {h = h} {k = k} test first second e w =
+      subst (λ t. Walked coder chooser (if t then first else second) value c h d k) (sym e) w
 
   -- a question is asked: its answer, the value of its answer, whether it is 1
   pub one_answer : (at : Place) (question : Question) {answer : ℤ} {c d : C} {h k : H}
