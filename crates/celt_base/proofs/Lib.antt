@@ -5,4 +5,9 @@ pub mod Narrowing
 pub mod PaceSteps
 pub mod Rows
 pub mod Unread
+pub mod WalkOrders
+pub mod WalkSteps
+pub mod WalkTables
+pub mod WalkThree
+pub mod WalkValues
 pub mod Writing

@@ -1,4 +1,5 @@
 pub mod Ends
+pub mod Energies
 pub mod Intervals
 pub mod Kinds
 pub mod Memory
@@ -6,4 +7,11 @@ pub mod MemorySides
 pub mod Outside
 pub mod Paces
 pub mod Questions
+pub mod States
 pub mod Statuses
+pub mod WalkCalls
+pub mod WalkOrders
+pub mod WalkScripts
+pub mod WalkTables
+pub mod WalkThree
+pub mod Walks

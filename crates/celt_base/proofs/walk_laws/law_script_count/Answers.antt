@@ -1,0 +1,9 @@
+use Rattle.celt_base.proofs.WalkOrders.{at_most, most_then, most_table}
+use Rattle.celt_base.proofs.walk_laws.law_script_count.Goals as goal
+
+pub returns : goal.returns
+returns g c = record {
+  most = λ n script pace events value most x. at_most n most x;
+  sum = λ m n script follow most later. most_then script follow m n most later;
+  product = λ n channels bands script most. most_table script n channels bands most;
+}
