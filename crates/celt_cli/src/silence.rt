@@ -7,6 +7,7 @@ ghost use Rattle.range_coder.specs.Reading.{first_bit};
 ghost use Rattle.celt_base.specs.Kinds.{config_of_toc};
 ghost use Rattle.ogg_pages.specs.Views.{page_in};
 
+use celt_base::coder::Coder;
 use celt_base::question::Question;
 use ogg_pages::view::PageView;
 use opus_packets::{Head, HeadFault, read_head};

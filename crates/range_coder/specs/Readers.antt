@@ -3,6 +3,7 @@ use Rattle.std.specs.Prelude.{◌≡◌, ℕ, List, [], ◌∷◌, ◌++◌, len
 use Rattle.celt_base.specs.declared.question.Question.{Question}
 use Rattle.celt_base.specs.Questions.{Answered, interval_of}
 use Rattle.celt_base.specs.Paces.{Pace}
+use Rattle.celt_base.specs.WalkCalls.{CoderCalls}
 use Rattle.range_coder.specs.declared.reader.Reader.{Reader}
 use Rattle.range_coder.specs.Reading.{Answers}
 use Rattle.range_coder.specs.Windows.{Shows, window_pace}
@@ -26,3 +27,11 @@ pub record Reads (before : Reader) (question : Question) (answer : ℤ) (now : R
       → StandsFor frame now (list ++ record { question = question; answer = answer } ∷ [])
   pub answers : (frame : List ℕ) (list : List Answered) → StandsFor frame before list
       → Answers frame (interval_of list) question answer
+
+-- The reader as a coder: what is wanted is passed over.
+abbrev pub reader_calls : CoderCalls Reader
+reader_calls = record {
+  pace = reader_pace;
+  count = reader_count;
+  Asks = λ before question wanted answer now. Reads before question answer now;
+}

@@ -3,7 +3,9 @@ ghost use Rattle.std.specs.Prelude.{◌≤◌, IfSome, IsTrue};
 ghost use Rattle.celt_base.specs.Questions.{IsValid, IsEven};
 
 use crate::reader::Reader;
+use celt_base::coder::{Coder, Mute};
 use celt_base::question::{Question, TableId};
+use celt_base::walk::{FirstEnergy, ask_first_energy};
 
 // Bit(p), its answer, and the bits, the eighths and the width that the reader tells after it.
 type Row = (u32, i64, u32, u32, u32);
@@ -483,5 +485,27 @@ fn whole_frames(rt: HostRuntime) {
     }
     for (k, reading) in CASES.into_iter().enumerate() {
         assert!(rt; reads(reading), "case {k}");
+    }
+}
+
+// A walk over a reader and a mute chooser: a bit, a small energy and a raw bit, and the pace after them.
+#[test]
+fn a_walk_of_three_questions(rt: HostRuntime) {
+    let rows: [([u8; 3], bool, i64, i64, u32, u32); 3] = [
+        ([0x9a, 0x3c, 0x55], false, -1, 1, 5, 0x1c00_0000),
+        ([0xff, 0x80, 0x01], true, 1, 1, 7, 0x0400_0000),
+        ([0x40, 0x00, 0x00], false, 0, 0, 4, 0x3800_0000),
+    ];
+    for (frame, intra, coarse, last, tell, range) in rows {
+        let mut reader = Reader::new(&frame);
+        let small = Question::Table(TableId::Small);
+        let energy = ask_first_energy(&mut reader, &mut Mute, small, Question::Raw(1));
+        let want = FirstEnergy {
+            intra,
+            coarse,
+            last,
+        };
+        assert_eq!(rt; energy, want);
+        assert_eq!(rt; (reader.tell(), reader.range()), (tell, range));
     }
 }

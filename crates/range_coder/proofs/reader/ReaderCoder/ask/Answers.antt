@@ -4,10 +4,10 @@ use Rattle.celt_base.specs.Paces.{paced}
 use Rattle.range_coder.specs.Readers.{reader_pace}
 use Rattle.range_coder.specs.Windows.{TakesAnswer}
 use Rattle.range_coder.proofs.Longer.{reads_answer}
-use Rattle.range_coder.proofs.reader.Reader.ask.Goals as goal
+use Rattle.range_coder.proofs.reader.ReaderCoder.ask.Goals as goal
 
-pub returns-clause-reads : goal.returns-clause-reads
-returns-clause-reads c =
+pub returns-clause-asks : goal.returns-clause-asks
+returns-clause-asks c =
     let answer = c.read_answer-answer in
     let small = answer.ensures.small in
     let fits : FitsSigned w64 answer.result.0 = fits_signed_from_abs w64 answer.result.0 (omega (arith, ints, small)) in

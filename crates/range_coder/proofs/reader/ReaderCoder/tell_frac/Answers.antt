@@ -1,7 +1,7 @@
 use Rattle.std.proofs.Common.{◌-◌, ◌*◌, ◌/◌, ◌^◌, sym, subst, arith, ap, ◌∙◌}
 use Rattle.celt_base.specs.Paces.{tell_frac_of, eighths_from}
 use Rattle.range_coder.proofs.Digits.{HasLength, length_is}
-use Rattle.range_coder.proofs.reader.Reader.tell_frac.Goals as goal
+use Rattle.range_coder.proofs.reader.ReaderCoder.tell_frac.Goals as goal
 
 length_of : (c : goal.After-bit_length-length) → HasLength c.args.self.now.window.width c.bit_length-length.result
 length_of c =

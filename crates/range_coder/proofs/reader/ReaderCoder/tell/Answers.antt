@@ -1,7 +1,7 @@
 use Rattle.std.proofs.Common.{◌-◌, arith, ap}
 use Rattle.celt_base.specs.Paces.{tell_of}
 use Rattle.range_coder.proofs.Digits.{length_is}
-use Rattle.range_coder.proofs.reader.Reader.tell.Goals as goal
+use Rattle.range_coder.proofs.reader.ReaderCoder.tell.Goals as goal
 
 pub returns-clause-value : goal.returns-clause-value
 unfolding tell_of
