@@ -91,3 +91,38 @@ fn greatest_amounts(rt: HostRuntime) {
         assert_eq!(rt; cap(kind, band), most, "at {lm} {channels} {band}");
     }
 }
+
+// The sum of (place + 1) * entry, where entries may be below 0.
+#[test]
+fn sum_of_changes(rt: HostRuntime) {
+    let mut place = 0i64;
+    let mut sum = 0i64;
+    for row in &CHANGES {
+        for entry in row {
+            place = place.wrapping_add(1);
+            sum = sum.wrapping_add(place.wrapping_mul(i64::from(*entry)));
+        }
+    }
+    assert_eq!(rt; (place, sum), (32, -147), "changes");
+}
+
+// Each row: the size exponent, whether there is a transient, the select, the flag, and the change.
+#[test]
+fn changes_of_resolution(rt: HostRuntime) {
+    let rows = [
+        (0u8, true, true, true, -1i32),
+        (1, true, false, true, 0),
+        (1, true, true, false, 1),
+        (2, false, true, true, -3),
+        (3, false, false, true, -2),
+        (3, true, false, false, 3),
+        (3, true, true, true, -1),
+    ];
+    for (lm, transient, select, flag, change) in rows {
+        assert_eq!(rt;
+            tf_of(lm, transient, select, flag),
+            change,
+            "at {lm} {transient} {select} {flag}"
+        );
+    }
+}
