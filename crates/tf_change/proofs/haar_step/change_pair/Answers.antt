@@ -22,7 +22,7 @@ returns-clause-sum c =
     let fh : FitsSigned w64 (item xs high) = fits_signed_from_abs w64 (item xs high) (omega arith) in
     let ea : a ≡ scaled (item xs low) = simp to_z-of_z at c.over_root-a.ensures.value in
     let eb : b ≡ scaled (item xs high) = simp to_z-of_z at c.over_root-b.ensures.value in
-    simp to_z-of_z (pair_low xs low high (a +ℤ b) (a -ℤ b) c.requires.order c.requires.within ∙ ap (λ v. v +ℤ b) ea ∙ ap (λ v. scaled (item xs low) +ℤ v) eb)
+    simp to_z-of_z (pair_low xs low high (a +ℤ b) _ c.requires.order c.requires.within ∙ ap (λ v. v +ℤ b) ea ∙ ap (λ v. scaled (item xs low) +ℤ v) eb)
 
 pub returns-clause-difference : goal.returns-clause-difference
 returns-clause-difference c =
