@@ -1,0 +1,3 @@
+pub mod HaarLemmas
+pub mod ItemLemmas
+pub mod OrderLemmas

@@ -1,0 +1,3 @@
+pub mod Haar
+pub mod Items
+pub mod Order
