@@ -1,7 +1,7 @@
 -- The encoder's search for the vector of whole numbers that is nearest in direction to a band's part (RFC 6716,
 -- 4.3.4.1). Pulses are added one at a time, each where the vector's correlation with the part, squared, over
 -- the vector's energy then becomes greatest.
-use Rattle.std.specs.Prelude.{ℕ, zero, suc, ◌+◌, ◌*◌, ◌<◌, ◌≤◌, nat_lt, Bool, true, false, not, ◌||◌, if◌then◌else◌, ℤ, pos, negsuc, neg_ℤ, unsigned_abs, List, [], ◌∷◌, length, map, slice_index, slice_set, replicate}
+use Rattle.std.specs.Prelude.{ℕ, zero, suc, ◌+◌, ◌*◌, ◌<◌, ◌≤◌, nat_lt, Bool, true, false, not, ◌||◌, if◌then◌else◌, ℤ, pos, negsuc, neg_ℤ, ◌≤ℤ◌, ◌<ℤ◌, unsigned_abs, List, [], ◌∷◌, length, map, slice_index, slice_set, replicate}
 
 -- the sum of the products of two lists, place by place
 unfoldable pub dot : List ℕ → List ℕ → ℕ
@@ -56,6 +56,11 @@ pulses_by xs (suc k) = let ys = pulses_by xs k in one_more ys (best_place xs ys)
 abbrev pub signed : ℤ → ℕ → ℤ
 signed (pos n) y = pos y
 signed (negsuc n) y = neg_ℤ (pos y)
+
+-- where an item is below 0 its number is not above 0, and else it is not below 0
+pub record AgreesInSign (x y : ℤ) : Type 0 where
+  pub above : pos 0 ≤ℤ x → pos 0 ≤ℤ y
+  pub below : x <ℤ pos 0 → y ≤ℤ pos 0
 
 unfoldable pub signed_all : List ℤ → List ℕ → List ℤ
 signed_all [] ys = []

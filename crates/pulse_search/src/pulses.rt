@@ -2,9 +2,9 @@
 //! 4.3.4.1). Pulses are added one at a time, each at the place where (R + |x|)^2 / (Q + 2y + 1) is greatest,
 //! x being the part's item there and y the pulses that the place holds: that is the square of what the vector's
 //! correlation R with the part would be, over what its energy Q would be.
-ghost use Rattle.std.specs.Prelude.{◌≡◌, ℕ, ℤ, List, ◌+◌, ◌*◌, ◌^◌, ◌<◌, ◌≤◌, pos, ◌≤ℤ◌, unsigned_abs, All, length, map, nat_lt, replicate, slice_index, sum_by, take};
+ghost use Rattle.std.specs.Prelude.{◌≡◌, ℕ, ℤ, List, ◌+◌, ◌*◌, ◌^◌, ◌<◌, ◌≤◌, pos, unsigned_abs, All, IsTrue, length, map, nat_lt, replicate, slice_index, sum_by, take};
 ghost use Rattle.std.specs.Prelude.{slice_index_or as item};
-ghost use Rattle.pulse_search.specs.Pulses.{dot, squared, match_with, energy_with, best_place, IsBest, pulses_by, signed, signed_all, vector_of};
+ghost use Rattle.pulse_search.specs.Pulses.{dot, squared, match_with, energy_with, best_place, IsBest, AgreesInSign, pulses_by, signed, signed_all, vector_of};
 
 /// The most items that a part has.
 const LONGEST: usize = 176;
@@ -79,9 +79,7 @@ pub fn search(x: &[i64], k: u32, out: &mut [i32])
     requires room { length out.old ≡ length x.now }
     ensures value { out.new ≡ vector_of x.now k }
     ensures pulses { sum_by unsigned_abs out.new ≡ k }
-    ensures signs { (i : ℕ) → i < length x.now
-        → (pos 0 ≤ℤ item x.now i (pos 0) → pos 0 ≤ℤ item out.new i (pos 0))
-        × (item x.now i (pos 0) ≤ℤ pos 0 → item out.new i (pos 0) ≤ℤ pos 0) }
+    ensures signs { (i : ℕ) → i < length x.now → AgreesInSign (item x.now i (pos 0)) (item out.new i (pos 0)) }
 {
     let count = x.len();
     let sizes = sizes_of(x);
@@ -114,11 +112,7 @@ fn place_pulses(sizes: &[u32], k: u32, pulses: &mut [u32])
     let narrow = (k as u64) * (k as u64) * (largest(sizes) as u64) < 0x1_0000_0000;
     let mut sums = Sums { correlation: 0, energy: 0 };
     for _ in 0..k {
-        let place = if narrow {
-            best_narrow(sizes, pulses, sums)
-        } else {
-            best_wide(sizes, pulses, sums)
-        };
+        let place = best(sizes, pulses, sums, narrow);
         sums = sums.with_pulse(sizes[place], pulses[place]);
         pulses[place] += 1;
     }
@@ -139,7 +133,26 @@ fn largest(sizes: &[u32]) -> u32
     most
 }
 
-// The first place at which a pulse gains most, in products of 64 bits.
+// The first place at which a pulse gains most; `narrow` says that products fit 64 bits.
+fn best(sizes: &[u32], pulses: &[u32], sums: Sums, narrow: bool) -> usize
+    requires count { 1 ≤ length sizes.now }
+    requires same { length pulses.now ≡ length sizes.now }
+    requires correlation { sums.correlation ≡ dot sizes.now pulses.now }
+    requires energy { sums.energy ≡ dot pulses.now pulses.now }
+    requires correlations { All (λ v. dot sizes.now pulses.now + v < 2 ^ 32) sizes.now }
+    requires energies { All (λ v. dot pulses.now pulses.now + (2 * v + 1) ≤ 2 ^ 24) pulses.now }
+    requires narrow { IsTrue narrow → (i j : ℕ) → i < length sizes.now → j < length sizes.now
+        → match_with sizes.now pulses.now i * energy_with pulses.now j < 2 ^ 64 }
+    ensures { IsBest sizes.now pulses.now (length sizes.now) result }
+{
+    if narrow {
+        best_narrow(sizes, pulses, sums)
+    } else {
+        best_wide(sizes, pulses, sums)
+    }
+}
+
+// The same in products of 64 bits.
 fn best_narrow(sizes: &[u32], pulses: &[u32], sums: Sums) -> usize
     requires count { 1 ≤ length sizes.now }
     requires same { length pulses.now ≡ length sizes.now }
