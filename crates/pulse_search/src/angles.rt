@@ -52,10 +52,9 @@ fn under(trig: &Trig, m: u64, s: u64, a: u32) -> bool
     trig.sin(a) * m as i64 <= trig.cos(a) * s as i64
 }
 
-/// `angle_of` is the greatest such angle.
-pub fn law_angle(m: u64, s: u64)
-    requires { 0 < m + s }
-    ensures { IsAngle m s (angle_of m s) }
+/// The definition's angle is the greatest of a quarter with sin * m <= cos * s.
+pub fn law_angle()
+    ensures { (m s : ℕ) → 0 < m + s → IsAngle m s (angle_of m s) }
 {}
 
 /// The angle never falls as `m` shrinks or `s` grows.

@@ -5,6 +5,8 @@
 
 mod angles;
 mod pulses;
+#[cfg(test)]
+mod tests;
 
 pub use angles::{angle, law_angle, law_angle_order};
 pub use pulses::{law_best_place, law_pulses, search};

@@ -24,21 +24,7 @@ struct Gain {
 }
 
 impl Sums {
-    // What one more pulse at a place makes of them.
-    fn gain(self, size: u32, pulses: u32) -> Gain
-        requires correlation { self.correlation + size < 2 ^ 32 }
-        requires energy { self.energy + (2 * pulses + 1) ≤ 2 ^ 24 }
-        ensures square { result.square ≡ squared (self.correlation + size) }
-        ensures energy { result.energy ≡ self.energy + (2 * pulses + 1) }
-    {
-        let correlation = self.correlation + size as u64;
-        Gain {
-            square: correlation * correlation,
-            energy: self.energy + (2 * pulses as u64 + 1),
-        }
-    }
-
-    // The sums with that pulse.
+    // The sums with one more pulse at a place of this size and so many pulses.
     fn with_pulse(self, size: u32, pulses: u32) -> Sums
         requires correlation { self.correlation + size < 2 ^ 32 }
         requires energy { self.energy + (2 * pulses + 1) ≤ 2 ^ 24 }
@@ -48,6 +34,20 @@ impl Sums {
         Sums {
             correlation: self.correlation + size as u64,
             energy: self.energy + (2 * pulses as u64 + 1),
+        }
+    }
+
+    // What that pulse gains.
+    fn gain(self, size: u32, pulses: u32) -> Gain
+        requires correlation { self.correlation + size < 2 ^ 32 }
+        requires energy { self.energy + (2 * pulses + 1) ≤ 2 ^ 24 }
+        ensures square { result.square ≡ squared (self.correlation + size) }
+        ensures energy { result.energy ≡ self.energy + (2 * pulses + 1) }
+    {
+        let next = self.with_pulse(size, pulses);
+        Gain {
+            square: next.correlation * next.correlation,
+            energy: next.energy,
         }
     }
 }
