@@ -1,11 +1,11 @@
 -- The quarter's cosines never rise, by evaluation; so the angles under a ratio are the first ones, and the
 -- greatest is found by halving.
-use Rattle.std.proofs.Common.{◌≡◌, ℕ, zero, suc, ◌+◌, ◌-◌, ◌*◌, ◌/◌, ◌^◌, ◌<◌, ◌≤◌, refl, sym, ap, subst, inl, inr, arith, ◌∙◌, Bool, true, false, ◌&&◌}
+use Rattle.std.proofs.Common.{◌≡◌, ℕ, zero, suc, ◌+◌, ◌-◌, ◌*◌, ◌^◌, ◌<◌, ◌≤◌, refl, sym, ap, subst, inl, inr, arith, ◌∙◌, Bool, true, false, ◌&&◌}
 use Rattle.std.specs.Prelude.{nat_le, nat_eq, ℤ, pos, negsuc, ◌*ℤ◌, ◌≤ℤ◌, ◌<ℤ◌, unsigned_abs, int_le, FitsSigned}
 use Rattle.std.specs.Int.{w64, cast_signed as to_z, cast_unsigned as of_z}
 use Rattle.std.proofs.lemmas.Int.{ints, fits_signed_from_abs, fits_signed_mul, to_z-of_z, to_z_pos}
 use Rattle.std.proofs.lemmas.Nat.{mul-le}
-use Rattle.std.proofs.lemmas.Bool.{cases_lt, cases_Bool, and_parts, leb-true, leb-false, le-leb, lt-leb, cond-true, cond-false, eqb-true, eq-eqb, ne_eqb}
+use Rattle.std.proofs.lemmas.Bool.{cases_lt, cases_Bool, and_parts, leb-true, le-leb, cond-true, cond-false, ne_eqb}
 use Rattle.fixed_math.specs.declared.circle.Point.{Point}
 use Rattle.fixed_math.specs.Powers.{greatest}
 use Rattle.fixed_math.specs.Circle.{start, point_by, narrowed, quarter_cosine, cosine, sine}

@@ -1,13 +1,11 @@
 -- Sums after one more pulse and their bounds, the first best of a row of fractions, and lists that are
 -- written from the front.
 use Rattle.std.proofs.Common.{◌≡◌, ℕ, zero, suc, ◌+◌, ◌-◌, ◌*◌, ◌^◌, ◌<◌, ◌≤◌, refl, sym, ap, subst, inl, inr, arith, ◌∙◌, Bool, true, false, List, [], ◌∷◌, length, get_or}
-use Rattle.std.specs.Prelude.{◌⊎◌, nat_lt, nat_le, not, ◌||◌, ℤ, pos, negsuc, neg_ℤ, ◌≤ℤ◌, unsigned_abs, All, map, take, slice_index, slice_set, sum_by, replicate}
-use Rattle.std.proofs.lemmas.Int.{ints}
+use Rattle.std.specs.Prelude.{◌⊎◌, nat_lt, not, All, slice_index, replicate}
 use Rattle.std.proofs.lemmas.Nat.{mul-le}
-use Rattle.std.proofs.lemmas.List.{length-set, length-map, length-replicate, get_or_default}
-use Rattle.std.proofs.lemmas.List.Sums.{sum_by-cons}
-use Rattle.std.proofs.lemmas.Bool.{cases_lt, cases_Bool, or_left, or_right, or_parts, or_from, ltb-true, ltb-false, lt-ltb, le-ltb, cond-true, cond-false}
-use Rattle.pulse_search.specs.Pulses.{dot, squared, match_with, energy_with, is_better, is_beaten, least, best_place, IsBest, one_more, pulses_by, signed, signed_all, vector_of}
+use Rattle.std.proofs.lemmas.List.{length-set, length-replicate, get_or_default}
+use Rattle.std.proofs.lemmas.Bool.{cases_lt, cases_Bool, or_left, or_right, or_from, ltb-true, ltb-false, lt-ltb, le-ltb, cond-true, cond-false}
+use Rattle.pulse_search.specs.Pulses.{dot, squared, match_with, energy_with, is_better, is_beaten, least, best_place, IsBest, one_more, pulses_by}
 
 -- ---- sums
 
@@ -106,8 +104,10 @@ best-moves xs ys n j b t = record {
   where
     here : match_with xs ys j * energy_with ys n < match_with xs ys n * energy_with ys j
     here = ltb-true (match_with xs ys j * energy_with ys n) (match_with xs ys n * energy_with ys j) t
+
     before : (i : ℕ) → i < n → match_with xs ys i * energy_with ys n < match_with xs ys n * energy_with ys i
     before i p = fractions (match_with xs ys i) (energy_with ys i) (match_with xs ys j) (energy_with ys j) (match_with xs ys n) (energy_with ys n) (energy_with-some ys i) (energy_with-some ys n) (b.greatest i p) here
+
     upto : (i : ℕ) → i < n + 1 → match_with xs ys i * energy_with ys n ≤ match_with xs ys n * energy_with ys i
     upto i p =
         elim (last_or_below i n p) [
@@ -165,8 +165,8 @@ least-found t (suc n) (suc j) p h b = cond-false (t 0) 0 (suc (least (λ i. t (s
 pub best-found : (xs ys : List ℕ) (j : ℕ) → IsBest xs ys (length xs) j → j ≡ best_place xs ys
 unfolding best_place
 best-found xs ys j b = sym (least-found (λ i. not (is_beaten xs ys (length xs) i)) (length xs) j b.within
-  (ap not (unbeaten-by xs ys (length xs) j b.greatest))
-  (λ i p. ap not (beaten-by xs ys (length xs) i j b.within (lt-ltb (match_with xs ys i * energy_with ys j) (match_with xs ys j * energy_with ys i) (b.first i p)))))
+    (ap not (unbeaten-by xs ys (length xs) j b.greatest))
+    (λ i p. ap not (beaten-by xs ys (length xs) i j b.within (lt-ltb (match_with xs ys i * energy_with ys j) (match_with xs ys j * energy_with ys i) (b.first i p)))))
 
 best_of : (xs ys : List ℕ) (n : ℕ) → (j : ℕ) × IsBest xs ys (suc n) j
 best_of xs ys zero = (0, best-start xs ys)

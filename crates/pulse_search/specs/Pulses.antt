@@ -1,7 +1,7 @@
--- The encoder's search for the vector of whole numbers that is nearest in direction to a band's part (RFC 6716,
--- 4.3.4.1). Pulses are added one at a time, each where the vector's correlation with the part, squared, over
+-- The encoder's search for the vector of whole numbers that is near in direction to a band's part (RFC 6716,
+-- 5.3.8.1). Pulses are added one at a time, each where the vector's correlation with the part, squared, over
 -- the vector's energy then becomes greatest.
-use Rattle.std.specs.Prelude.{ℕ, zero, suc, ◌+◌, ◌*◌, ◌<◌, ◌≤◌, nat_lt, Bool, true, false, not, ◌||◌, if◌then◌else◌, ℤ, pos, negsuc, neg_ℤ, ◌≤ℤ◌, ◌<ℤ◌, unsigned_abs, List, [], ◌∷◌, length, map, slice_index, slice_set, replicate}
+use Rattle.std.specs.Prelude.{ℕ, zero, suc, ◌+◌, ◌*◌, ◌<◌, ◌≤◌, nat_lt, Bool, false, not, ◌||◌, if◌then◌else◌, ℤ, pos, negsuc, neg_ℤ, ◌≤ℤ◌, ◌<ℤ◌, unsigned_abs, List, [], ◌∷◌, length, map, slice_index, slice_set, replicate}
 
 -- the sum of the products of two lists, place by place
 unfoldable pub dot : List ℕ → List ℕ → ℕ

@@ -9,7 +9,8 @@ use fixed_math::Trig;
 const QUARTER: u32 = 3840;
 
 /// The greatest angle from 0 to 3840, a quarter of the circle, with sin * m <= cos * s; 0 where both are 0.
-/// The two are lengths, of any one unit.
+/// `m` and `s` are lengths below 2^48, of any one unit: those of two halves, or of middle and side (RFC 6716,
+/// section 4.3.4.4).
 pub fn angle(trig: &Trig, m: u64, s: u64) -> u32
     requires m_size { m < 2 ^ 48 }
     requires s_size { s < 2 ^ 48 }

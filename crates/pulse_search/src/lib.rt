@@ -1,6 +1,6 @@
-//! The encoder's choice of a band's pulses (RFC 6716, section 4.3.4.1), and of the angle by which a band is
-//! split (section 4.3.4.4). A decoder needs neither; the standard leaves both to the encoder. No call takes
-//! memory.
+//! Two choices of the encoder: the vector of pulses for a band's part (RFC 6716, section 5.3.8.1), and the
+//! angle by which a band is split (sections 4.3.4.4 and 5.3.5). The standard leaves both to the encoder, and a
+//! decoder needs neither. No call takes memory.
 #![tactic(auto)]
 
 mod angles;

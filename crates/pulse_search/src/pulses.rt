@@ -1,7 +1,9 @@
-//! The search for the vector of whole numbers that is nearest in direction to a band's part (RFC 6716, section
-//! 4.3.4.1). Pulses are added one at a time, each at the place where (R + |x|)^2 / (Q + 2y + 1) is greatest,
+//! The search for the vector of whole numbers that is near in direction to a band's part (RFC 6716, section
+//! 5.3.8.1). Pulses are added one at a time, each at the place where (R + |x|)^2 / (Q + 2y + 1) is greatest,
 //! x being the part's item there and y the pulses that the place holds: that is the square of what the vector's
-//! correlation R with the part would be, over what its energy Q would be.
+//! correlation R with the part would be, over what its energy Q would be. For the part (3, -2) the first pulse
+//! goes to the first place, since 9/1 is above 4/1, and the second to the other, since (3 + 2)^2/2 is above
+//! (3 + 3)^2/4: the vector is (1, -1).
 ghost use Rattle.std.specs.Prelude.{◌≡◌, ℕ, ℤ, List, ◌+◌, ◌*◌, ◌^◌, ◌<◌, ◌≤◌, pos, unsigned_abs, All, IsTrue, length, map, nat_lt, replicate, slice_index, sum_by, take};
 ghost use Rattle.std.specs.Prelude.{slice_index_or as item};
 ghost use Rattle.pulse_search.specs.Pulses.{dot, squared, match_with, energy_with, best_place, IsBest, AgreesInSign, pulses_by, signed, signed_all, vector_of};
@@ -33,7 +35,7 @@ impl Sums {
     {
         Sums {
             correlation: self.correlation + size as u64,
-            energy: self.energy + (2 * pulses as u64 + 1),
+            energy: self.energy + 1 + 2 * pulses as u64,
         }
     }
 
@@ -66,12 +68,14 @@ impl Gain {
     fn exceeds_wide(self, other: Gain) -> bool
         ensures { result ≡ nat_lt (other.square * self.energy) (self.square * other.energy) }
     {
-        (other.square as u128) * (self.energy as u128) < (self.square as u128) * (other.energy as u128)
+        (other.square as u128) * (self.energy as u128)
+            < (self.square as u128) * (other.energy as u128)
     }
 }
 
-/// The vector of `k` pulses, 1 to 4096, that the search finds for the part `x` of 1 to 176 items below 2^20 in
-/// size. Of places that are equally good the first takes the pulse, and each number has its item's sign.
+/// Writes the vector of `k` pulses, 1 to 4096, that the search finds for the part `x` of 1 to 176 items below
+/// 2^20 in size, of any one unit: as many numbers, whose sizes add up to `k`. Of places that are equally good
+/// the first takes the pulse, and each number has its item's sign (RFC 6716, section 5.3.8.1).
 pub fn search(x: &[i64], k: u32, out: &mut [i32])
     requires count { (1 ≤ length x.now) × (length x.now ≤ 176) }
     requires sizes { All (λ v. unsigned_abs v < 2 ^ 20) x.now }
@@ -110,7 +114,10 @@ fn place_pulses(sizes: &[u32], k: u32, pulses: &mut [u32])
     ensures { pulses.new ≡ pulses_by sizes.now k }
 {
     let narrow = (k as u64) * (k as u64) * (largest(sizes) as u64) < 0x1_0000_0000;
-    let mut sums = Sums { correlation: 0, energy: 0 };
+    let mut sums = Sums {
+        correlation: 0,
+        energy: 0,
+    };
     for _ in 0..k {
         let place = best(sizes, pulses, sums, narrow);
         sums = sums.with_pulse(sizes[place], pulses[place]);

@@ -1,9 +1,8 @@
 //! Values of each call that a program written apart from this crate gave, and the worked rows.
 ghost use Rattle.std.specs.Prelude.{◌^◌, ◌<◌, ◌≤◌, All, unsigned_abs};
 
-use fixed_math::Trig;
-
 use crate::{angle, search};
+use fixed_math::Trig;
 
 /// The numbers of a vector in one: c becomes c * 1000003 + x modulo 2^64 for each x.
 fn digest(from: u64, y: &[i32]) -> u64 {

@@ -1,4 +1,4 @@
-use Rattle.std.proofs.Common.{◌≡◌, ◌+◌, nat_eq, sym, ap, ◌∙◌, arith}
+use Rattle.std.proofs.Common.{◌≡◌, sym, ap, ◌∙◌, arith}
 use Rattle.pulse_search.specs.Angles.{angle_of}
 use Rattle.pulse_search.proofs.AngleSteps.{angle-none}
 use Rattle.pulse_search.proofs.angles.angle.Goals as goal

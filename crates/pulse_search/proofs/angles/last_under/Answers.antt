@@ -1,5 +1,5 @@
-use Rattle.std.proofs.Common.{◌≡◌, ℕ, ◌+◌, ◌/◌, ◌<◌, ◌≤◌, true, false, arith, sym, subst, ◌∙◌}
-use Rattle.pulse_search.specs.Angles.{is_under, angle_of}
+use Rattle.std.proofs.Common.{◌≡◌, ◌+◌, ◌/◌, true, arith, sym, subst, ◌∙◌}
+use Rattle.pulse_search.specs.Angles.{is_under}
 use Rattle.pulse_search.proofs.AngleSteps.{under_start, over_later, angle-found}
 use Rattle.pulse_search.proofs.angles.last_under.Goals.{then-under, else-under}
 use Rattle.pulse_search.proofs.angles.last_under.Goals as goal
@@ -16,15 +16,15 @@ loop-left-preserved c =
     let i = c.loop-left.invariant in
     elim c.if-under.branch [
       | then-under w ↦ record {
-          range = omega (arith, w.low-is, i.range);
-          here = subst (λ k. is_under c.args.m c.args.s k ≡ true) (sym w.low-is) (sym c.under.ensures ∙ w.if-under.true);
-          above = λ b p q. i.above b (omega (arith, w.low-is)) q;
-        }
+        range = omega (arith, w.low-is, i.range);
+        here = subst (λ k. is_under c.args.m c.args.s k ≡ true) (sym w.low-is) (sym c.under.ensures ∙ w.if-under.true);
+        above = λ b p q. i.above b (omega (arith, w.low-is)) q;
+      }
       | else-under w ↦ record {
-          range = omega (arith, w.low-is, i.range);
-          here = subst (λ k. is_under c.args.m c.args.s k ≡ true) (sym w.low-is) i.here;
-          above = λ b p q. over_later c.args.m c.args.s (c.loop-left.low + (c.loop-left.left + 1) / 2) b (omega (arith, w.low-is)) q (sym c.under.ensures ∙ w.if-under.false);
-        }
+        range = omega (arith, w.low-is, i.range);
+        here = subst (λ k. is_under c.args.m c.args.s k ≡ true) (sym w.low-is) i.here;
+        above = λ b p q. over_later c.args.m c.args.s (c.loop-left.low + (c.loop-left.left + 1) / 2) b (omega (arith, w.low-is)) q (sym c.under.ensures ∙ w.if-under.false);
+      }
     ]
 
 pub returns-clause-value : goal.returns-clause-value

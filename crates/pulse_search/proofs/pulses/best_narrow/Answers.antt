@@ -1,4 +1,4 @@
-use Rattle.std.proofs.Common.{◌≡◌, ℕ, ◌+◌, true, false, sym, ap, subst, ◌∙◌, List}
+use Rattle.std.proofs.Common.{◌≡◌, ℕ, ◌+◌, sym, ap, subst, ◌∙◌, List}
 use Rattle.pulse_search.specs.declared.pulses.Gain.{Gain}
 use Rattle.pulse_search.specs.Pulses.{match_with, energy_with, IsBest}
 use Rattle.pulse_search.proofs.PulseSteps.{best-moves, best-stays, better-is, match-is, energy-is}
@@ -17,13 +17,13 @@ loop-i-preserved c =
     let b = c.exceeds.ensures ∙ better-is xs ys i j c.loop-i.best.square c.loop-i.best.energy c.gain-next.result.square c.gain-next.result.energy v.square v.energy s e in
     elim c.if-exceeds.branch [
       | then-exceeds w ↦ record {
-          place = subst (IsBest xs ys (i + 1)) (sym w.place-is) (best-moves xs ys i j v.place (sym b ∙ w.if-exceeds.true));
-          square = ap (λ (g : Gain). g.square) w.best-is ∙ s ∙ sym (ap (match_with xs ys) w.place-is);
-          energy = ap (λ (g : Gain). g.energy) w.best-is ∙ e ∙ sym (ap (energy_with ys) w.place-is);
-        }
+        place = subst (IsBest xs ys (i + 1)) (sym w.place-is) (best-moves xs ys i j v.place (sym b ∙ w.if-exceeds.true));
+        square = ap (λ (g : Gain). g.square) w.best-is ∙ s ∙ sym (ap (match_with xs ys) w.place-is);
+        energy = ap (λ (g : Gain). g.energy) w.best-is ∙ e ∙ sym (ap (energy_with ys) w.place-is);
+      }
       | else-exceeds w ↦ record {
-          place = subst (IsBest xs ys (i + 1)) (sym w.place-is) (best-stays xs ys i j v.place (sym b ∙ w.if-exceeds.false));
-          square = ap (λ (g : Gain). g.square) w.best-is ∙ v.square ∙ sym (ap (match_with xs ys) w.place-is);
-          energy = ap (λ (g : Gain). g.energy) w.best-is ∙ v.energy ∙ sym (ap (energy_with ys) w.place-is);
-        }
+        place = subst (IsBest xs ys (i + 1)) (sym w.place-is) (best-stays xs ys i j v.place (sym b ∙ w.if-exceeds.false));
+        square = ap (λ (g : Gain). g.square) w.best-is ∙ v.square ∙ sym (ap (match_with xs ys) w.place-is);
+        energy = ap (λ (g : Gain). g.energy) w.best-is ∙ v.energy ∙ sym (ap (energy_with ys) w.place-is);
+      }
     ]

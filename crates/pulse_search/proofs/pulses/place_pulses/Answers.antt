@@ -1,4 +1,4 @@
-use Rattle.std.proofs.Common.{◌≡◌, ℕ, ◌+◌, ◌*◌, ◌<◌, ◌≤◌, ◌^◌, arith, sym, ap, ◌∙◌, List, length, get_or}
+use Rattle.std.proofs.Common.{◌≡◌, ℕ, ◌+◌, ◌*◌, ◌<◌, ◌^◌, arith, sym, ap, ◌∙◌, List, length}
 use Rattle.std.specs.Prelude.{replicate, slice_index}
 use Rattle.std.proofs.lemmas.Bool.{ltb-true}
 use Rattle.pulse_search.specs.Pulses.{dot, best_place, one_more, pulses_by}
@@ -38,9 +38,9 @@ best-place-requires-clause-narrow c =
     let n : ℕ = c.loop.counter in
     let t : total ys ≡ n = ap total c.loop.invariant.pulses ∙ pulses-total xs n (omega (arith, c.requires.count.0)) in
     λ b i j p q.
-      let s = ltb-true _ _ b in
-      let r : c.args.k * c.args.k * c.largest.result < 2 ^ 32 = omega arith in
-      narrow_within xs ys n c.args.k c.largest.result t (omega arith) c.largest.ensures.bound r i j
+    let s = ltb-true _ _ b in
+    let r : c.args.k * c.args.k * c.largest.result < 2 ^ 32 = omega arith in
+    narrow_within xs ys n c.args.k c.largest.result t (omega arith) c.largest.ensures.bound r i j
 
 pub with_pulse-sums-requires-clause-correlation : goal.with_pulse-sums-requires-clause-correlation
 with_pulse-sums-requires-clause-correlation c =

@@ -1,9 +1,9 @@
-use Rattle.std.proofs.Common.{◌≡◌, ℕ, ◌+◌, ◌<◌, ◌≤◌, ◌^◌, arith, sym, ap, ◌∙◌, List, length, get_or, rules}
-use Rattle.std.specs.Prelude.{ℤ, pos, FitsSigned, slice_set, unsigned_abs}
+use Rattle.std.proofs.Common.{◌≡◌, ℕ, ◌<◌, arith, sym, ap, ◌∙◌, List, length, get_or, rules}
+use Rattle.std.specs.Prelude.{ℤ, pos, FitsSigned, slice_set}
 use Rattle.std.specs.Int.{w32, w64}
 use Rattle.std.proofs.lemmas.Int.{to_z-of_z}
 use Rattle.pulse_search.specs.Pulses.{signed, signed_all}
-use Rattle.pulse_search.proofs.FrontSteps.{over, over-none, over-more, over-all, length-signed_all, signed_all-at}
+use Rattle.pulse_search.proofs.FrontSteps.{over-none, over-more, over-all, length-signed_all, signed_all-at}
 use Rattle.pulse_search.proofs.pulses.put_signed.Goals as goal
 
 pub loop-i-init : goal.loop-i-init

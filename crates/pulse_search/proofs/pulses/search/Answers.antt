@@ -1,7 +1,7 @@
-use Rattle.std.proofs.Common.{◌≡◌, ℕ, ◌+◌, ◌<◌, ◌≤◌, ◌^◌, arith, sym, ap, subst, ◌∙◌, List, length, get_or}
-use Rattle.std.specs.Prelude.{ℤ, pos, All, map, replicate, sum_by, take, unsigned_abs}
+use Rattle.std.proofs.Common.{◌≡◌, ℕ, ◌<◌, ◌≤◌, ◌^◌, arith, sym, ap, subst, ◌∙◌, List, length, get_or}
+use Rattle.std.specs.Prelude.{ℤ, pos, All, replicate, sum_by, take, unsigned_abs}
 use Rattle.std.proofs.lemmas.List.{length-map, take-replicate}
-use Rattle.pulse_search.specs.Pulses.{AgreesInSign, pulses_by, signed_all, vector_of}
+use Rattle.pulse_search.specs.Pulses.{AgreesInSign, signed_all}
 use Rattle.pulse_search.proofs.PulseSteps.{pulses-length}
 use Rattle.pulse_search.proofs.FrontSteps.{take-front, pulses-most, sizes-below, vector-from, vector-sum, vector-agrees}
 use Rattle.pulse_search.proofs.pulses.search.Goals as goal
