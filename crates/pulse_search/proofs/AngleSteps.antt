@@ -55,9 +55,6 @@ pub size_at-is : (a : ℕ) → a ≤ 3840 → quarter_cosine a ≡ pos (size_at 
 unfolding size_at
 size_at-is a h = not_below (quarter_cosine a) (quarter_low a h)
 
-int_le-pos : (a b : ℕ) → int_le (pos a) (pos b) ≡ nat_le a b
-int_le-pos a b = refl
-
 size_falls : (a : ℕ) → a < 3840 → size_at (suc a) ≤ size_at a
 size_falls a h =
     let t : int_le (narrowed (at (suc (0 + a))).x) (narrowed (at (0 + a)).x) ≡ true = falls_at 3840 0 a (subst (λ p. falling 3840 p ≡ true) (sym at-start) quarter_falls) h in

@@ -1,11 +1,11 @@
 -- Sums after one more pulse and their bounds, the first best of a row of fractions, and lists that are
 -- written from the front.
 use Rattle.std.proofs.Common.{◌≡◌, ℕ, zero, suc, ◌+◌, ◌-◌, ◌*◌, ◌^◌, ◌<◌, ◌≤◌, refl, sym, ap, subst, inl, inr, arith, ◌∙◌, Bool, true, false, List, [], ◌∷◌, length, get_or}
-use Rattle.std.specs.Prelude.{◌⊎◌, nat_lt, not, All, slice_index, replicate}
+use Rattle.std.specs.Prelude.{◌⊎◌, not, All, slice_index, replicate}
 use Rattle.std.proofs.lemmas.Nat.{mul-le}
 use Rattle.std.proofs.lemmas.List.{length-set, length-replicate, get_or_default}
 use Rattle.std.proofs.lemmas.Bool.{cases_lt, cases_Bool, or_left, or_right, or_from, ltb-true, ltb-false, lt-ltb, le-ltb, cond-true, cond-false}
-use Rattle.pulse_search.specs.Pulses.{dot, squared, match_with, energy_with, is_better, is_beaten, least, best_place, IsBest, one_more, pulses_by}
+use Rattle.pulse_search.specs.Pulses.{dot, squared, match_with, energy_with, is_better, is_beaten, least, best_place, IsBest, IsNext, one_more, pulses_by}
 
 -- ---- sums
 
@@ -129,16 +129,23 @@ best-stays xs ys n j b t = record {
           | inr q ↦ b.greatest i q
         ]
 
--- a comparison of the gains of two places
-pub better-is : (xs ys : List ℕ) (i j a b c d : ℕ) → a ≡ match_with xs ys j → b ≡ energy_with ys j → c ≡ match_with xs ys i → d ≡ energy_with ys i → nat_lt (a * d) (c * b) ≡ is_better xs ys i j
-better-is xs ys i j a b c d e f g h =
-    ap (λ n. nat_lt (n * d) (c * b)) e ∙ ap (λ n. nat_lt (match_with xs ys j * d) (c * n)) f ∙ ap (λ n. nat_lt (match_with xs ys j * d) (n * energy_with ys j)) g ∙ ap (λ n. nat_lt (match_with xs ys j * n) (match_with xs ys i * energy_with ys j)) h
+-- places that are not better change nothing
+best-over : (xs ys : List ℕ) (n m j : ℕ) → IsBest xs ys n j → n ≤ m → ((i : ℕ) → n ≤ i → i < m → is_better xs ys i j ≡ false) → IsBest xs ys m j
+best-over xs ys n m j b h passed = record {
+  within = omega (arith, b.within);
+  greatest = λ i p. upto i p;
+  first = b.first;
+}
+  where
+    upto : (i : ℕ) → i < m → match_with xs ys i * energy_with ys j ≤ match_with xs ys j * energy_with ys i
+    upto i p =
+        elim (cases_lt i n) [
+          | inl q ↦ b.greatest i q
+          | inr q ↦ ltb-false (match_with xs ys j * energy_with ys i) (match_with xs ys i * energy_with ys j) (passed i q p)
+        ]
 
-pub match-is : (xs ys : List ℕ) (i r s : ℕ) → r ≡ dot xs ys → s ≡ squared (r + slice_index xs i) → s ≡ match_with xs ys i
-match-is xs ys i r s e h = h ∙ ap (λ n. squared (n + slice_index xs i)) e
-
-pub energy-is : (ys : List ℕ) (i q s : ℕ) → q ≡ dot ys ys → s ≡ q + (2 * slice_index ys i + 1) → s ≡ energy_with ys i
-energy-is ys i q s e h = h ∙ ap (λ n. n + (2 * slice_index ys i + 1)) e
+pub best-next : (xs ys : List ℕ) (n m j : ℕ) → IsBest xs ys n j → is_better xs ys n j ≡ true → IsNext xs ys n m → IsBest xs ys m n
+best-next xs ys n m j b t h = best-over xs ys (n + 1) m n (best-moves xs ys n j b t) (omega (arith, h.low)) (λ i p q. h.passed i (omega arith) q)
 
 -- ---- the definition's place
 

@@ -1,7 +1,7 @@
 -- The encoder's search for the vector of whole numbers that is near in direction to a band's part (RFC 6716,
 -- 5.3.8.1). Pulses are added one at a time, each where the vector's correlation with the part, squared, over
 -- the vector's energy then becomes greatest.
-use Rattle.std.specs.Prelude.{ℕ, zero, suc, ◌+◌, ◌*◌, ◌<◌, ◌≤◌, nat_lt, Bool, false, not, ◌||◌, if◌then◌else◌, ℤ, pos, negsuc, neg_ℤ, ◌≤ℤ◌, ◌<ℤ◌, unsigned_abs, List, [], ◌∷◌, length, map, slice_index, slice_set, replicate}
+use Rattle.std.specs.Prelude.{◌≡◌, ℕ, zero, suc, ◌+◌, ◌*◌, ◌<◌, ◌≤◌, nat_lt, Bool, true, false, not, ◌||◌, if◌then◌else◌, ℤ, pos, negsuc, neg_ℤ, ◌≤ℤ◌, ◌<ℤ◌, unsigned_abs, List, [], ◌∷◌, length, map, slice_index, slice_set, replicate}
 
 -- the sum of the products of two lists, place by place
 unfoldable pub dot : List ℕ → List ℕ → ℕ
@@ -42,6 +42,13 @@ pub record IsBest (xs ys : List ℕ) (n j : ℕ) : Type 0 where
   pub within : j < n
   pub greatest : (i : ℕ) → i < n → match_with xs ys i * energy_with ys j ≤ match_with xs ys j * energy_with ys i
   pub first : (i : ℕ) → i < j → match_with xs ys i * energy_with ys j < match_with xs ys j * energy_with ys i
+
+-- n is the first place behind j that is better, or the number of places where none is
+pub record IsNext (xs ys : List ℕ) (j n : ℕ) : Type 0 where
+  pub low : j < n
+  pub high : n ≤ length xs
+  pub passed : (i : ℕ) → j < i → i < n → is_better xs ys i j ≡ false
+  pub better : n < length xs → is_better xs ys n j ≡ true
 
 -- one more pulse at place j
 abbrev pub one_more : List ℕ → ℕ → List ℕ

@@ -6,7 +6,7 @@
 //! (3 + 3)^2/4: the vector is (1, -1).
 ghost use Rattle.std.specs.Prelude.{◌≡◌, ℕ, ℤ, List, ◌+◌, ◌*◌, ◌^◌, ◌<◌, ◌≤◌, pos, unsigned_abs, All, IsTrue, length, map, nat_lt, replicate, slice_index, sum_by, take};
 ghost use Rattle.std.specs.Prelude.{slice_index_or as item};
-ghost use Rattle.pulse_search.specs.Pulses.{dot, squared, match_with, energy_with, best_place, IsBest, AgreesInSign, pulses_by, signed, signed_all, vector_of};
+ghost use Rattle.pulse_search.specs.Pulses.{dot, squared, match_with, energy_with, best_place, IsBest, IsNext, AgreesInSign, pulses_by, signed, signed_all, vector_of};
 
 /// The most items that a part has.
 const LONGEST: usize = 176;
@@ -152,16 +152,38 @@ fn best(sizes: &[u32], pulses: &[u32], sums: Sums, narrow: bool) -> usize
         → match_with sizes.now pulses.now i * energy_with pulses.now j < 2 ^ 64 }
     ensures { IsBest sizes.now pulses.now (length sizes.now) result }
 {
+    let mut place = 0;
+    let mut next = next_better(sizes, pulses, sums, place, narrow);
+    while next < sizes.len() {
+        place = next;
+        next = next_better(sizes, pulses, sums, place, narrow);
+    }
+    place
+}
+
+// The first place behind this one at which a pulse gains more; the number of places where there is none.
+fn next_better(sizes: &[u32], pulses: &[u32], sums: Sums, place: usize, narrow: bool) -> usize
+    requires place { place < length sizes.now }
+    requires same { length pulses.now ≡ length sizes.now }
+    requires correlation { sums.correlation ≡ dot sizes.now pulses.now }
+    requires energy { sums.energy ≡ dot pulses.now pulses.now }
+    requires correlations { All (λ v. dot sizes.now pulses.now + v < 2 ^ 32) sizes.now }
+    requires energies { All (λ v. dot pulses.now pulses.now + (2 * v + 1) ≤ 2 ^ 24) pulses.now }
+    requires narrow { IsTrue narrow → (i j : ℕ) → i < length sizes.now → j < length sizes.now
+        → match_with sizes.now pulses.now i * energy_with pulses.now j < 2 ^ 64 }
+    ensures { IsNext sizes.now pulses.now place result }
+{
     if narrow {
-        best_narrow(sizes, pulses, sums)
+        next_narrow(sizes, pulses, sums, place)
     } else {
-        best_wide(sizes, pulses, sums)
+        next_wide(sizes, pulses, sums, place)
     }
 }
 
-// The same in products of 64 bits.
-fn best_narrow(sizes: &[u32], pulses: &[u32], sums: Sums) -> usize
-    requires count { 1 ≤ length sizes.now }
+// The same in products of 64 bits. Few places are better than the one before them, so this loop is the
+// search's time: it keeps nothing from place to place.
+fn next_narrow(sizes: &[u32], pulses: &[u32], sums: Sums, place: usize) -> usize
+    requires place { place < length sizes.now }
     requires same { length pulses.now ≡ length sizes.now }
     requires correlation { sums.correlation ≡ dot sizes.now pulses.now }
     requires energy { sums.energy ≡ dot pulses.now pulses.now }
@@ -169,40 +191,34 @@ fn best_narrow(sizes: &[u32], pulses: &[u32], sums: Sums) -> usize
     requires energies { All (λ v. dot pulses.now pulses.now + (2 * v + 1) ≤ 2 ^ 24) pulses.now }
     requires narrow { (i j : ℕ) → i < length sizes.now → j < length sizes.now
         → match_with sizes.now pulses.now i * energy_with pulses.now j < 2 ^ 64 }
-    ensures { IsBest sizes.now pulses.now (length sizes.now) result }
+    ensures { IsNext sizes.now pulses.now place result }
 {
-    let mut place = 0;
-    let mut best = sums.gain(sizes[0], pulses[0]);
-    for i in 1..sizes.len() {
-        let next = sums.gain(sizes[i], pulses[i]);
-        if next.exceeds(best) {
-            place = i;
-            best = next;
+    let best = sums.gain(sizes[place], pulses[place]);
+    for i in place + 1..sizes.len() {
+        if sums.gain(sizes[i], pulses[i]).exceeds(best) {
+            return i;
         }
     }
-    place
+    sizes.len()
 }
 
 // The same in products of 128 bits.
-fn best_wide(sizes: &[u32], pulses: &[u32], sums: Sums) -> usize
-    requires count { 1 ≤ length sizes.now }
+fn next_wide(sizes: &[u32], pulses: &[u32], sums: Sums, place: usize) -> usize
+    requires place { place < length sizes.now }
     requires same { length pulses.now ≡ length sizes.now }
     requires correlation { sums.correlation ≡ dot sizes.now pulses.now }
     requires energy { sums.energy ≡ dot pulses.now pulses.now }
     requires correlations { All (λ v. dot sizes.now pulses.now + v < 2 ^ 32) sizes.now }
     requires energies { All (λ v. dot pulses.now pulses.now + (2 * v + 1) ≤ 2 ^ 24) pulses.now }
-    ensures { IsBest sizes.now pulses.now (length sizes.now) result }
+    ensures { IsNext sizes.now pulses.now place result }
 {
-    let mut place = 0;
-    let mut best = sums.gain(sizes[0], pulses[0]);
-    for i in 1..sizes.len() {
-        let next = sums.gain(sizes[i], pulses[i]);
-        if next.exceeds_wide(best) {
-            place = i;
-            best = next;
+    let best = sums.gain(sizes[place], pulses[place]);
+    for i in place + 1..sizes.len() {
+        if sums.gain(sizes[i], pulses[i]).exceeds_wide(best) {
+            return i;
         }
     }
-    place
+    sizes.len()
 }
 
 // Writes the pulses with the signs of the part's items.
