@@ -1,0 +1,3 @@
+pub mod AngleSteps
+pub mod FrontSteps
+pub mod PulseSteps
