@@ -1,3 +1,4 @@
 pub mod ItemLemmas
 pub mod MaskLemmas
 pub mod NoiseLemmas
+pub mod SpreadLemmas

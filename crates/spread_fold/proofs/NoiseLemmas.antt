@@ -16,7 +16,7 @@ pub record Filled (i seed state : ℕ) (f : ℕ → ℤ) (out : List ℤ) : Type
 
 pub filled_start : (seed : ℕ) (f : ℕ → ℤ) (out : List ℤ) → Filled 0 seed seed f out
 unfolding seed_after
-filled_start seed f out = record { here = λ p h. absurd (omega arith); stepped = refl; }
+filled_start seed f out = record { here = λ p h. absurd (omega arith); stepped = refl }
 
 pub step_more : (i seed state : ℕ) → state ≡ seed_after i seed → noise_after state ≡ seed_after (suc i) seed
 unfolding seed_after

@@ -5,8 +5,10 @@
 
 mod masks;
 mod noise_items;
+mod spreading;
 #[cfg(test)]
 mod tests;
 
 pub use masks::mask_of;
 pub use noise_items::{fold, noise_fill};
+pub use spreading::rotate;

@@ -20,4 +20,4 @@ loop-k-preserved c =
 
 pub loop-k-init : goal.loop-k-init
 unfolding block_bits
-loop-k-init c = record { bits = refl; small = omega arith; }
+loop-k-init c = record { bits = refl; small = omega arith }
