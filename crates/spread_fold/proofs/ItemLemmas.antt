@@ -1,5 +1,5 @@
 -- Lists by places: one place written, and lists that agree at each place.
-use Rattle.std.proofs.Common.{◌≡◌, ◌≢◌, ℕ, ◌+◌, ◌-◌, ◌*◌, ◌<◌, ◌≤◌, sym, subst, inl, inr, arith, ap, ◌∙◌, List, length, get_or}
+use Rattle.std.proofs.Common.{◌≡◌, ℕ, ◌+◌, ◌<◌, ◌≤◌, sym, subst, inl, inr, arith, ap, ◌∙◌, List, length, get_or}
 use Rattle.std.specs.Prelude.{ℤ, pos, unsigned_abs, slice_set, All}
 use Rattle.std.proofs.lemmas.Bool.{cases_lt, cases_eq}
 use Rattle.std.proofs.lemmas.List.{get_or-set_same, get_or-set_other, same_lists, get_or_default, get_or_past}
@@ -54,3 +54,9 @@ all_listed P xs n f e h = λ k d l.
     let q : k < n = omega arith in
     let a : get_or xs k d ≡ f k = ap (λ ys. get_or ys k d) e ∙ get_or-map-range_with_len f 0 n k k d q (omega arith) in
     subst P (sym a) (h k q)
+
+pub item_below : (xs : List ℤ) (m p : ℕ) → 0 < m → All (λ v. unsigned_abs v < m) xs → unsigned_abs (item xs p) < m
+item_below xs m p s h = elim (cases_lt p (length xs)) [
+  | inl l ↦ h p (pos 0) l
+  | inr l ↦ let e : item xs p ≡ pos 0 = get_or_past xs p (pos 0) l in subst (λ v. unsigned_abs v < m) (sym e) (omega arith)
+]

@@ -2,3 +2,4 @@ pub mod ItemLemmas
 pub mod MaskLemmas
 pub mod NoiseLemmas
 pub mod SpreadLemmas
+pub mod StereoLemmas

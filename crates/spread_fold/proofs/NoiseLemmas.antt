@@ -1,11 +1,11 @@
 -- The noise, item by item.
-use Rattle.std.proofs.Common.{◌≡◌, ℕ, zero, suc, ◌+◌, ◌-◌, ◌*◌, ◌/◌, ◌%◌, ◌^◌, ◌<◌, ◌≤◌, sym, subst, inl, inr, arith, refl, ap, ◌∙◌, add-one, List, length, Bool, true, false}
+use Rattle.std.proofs.Common.{◌≡◌, ℕ, suc, ◌+◌, ◌/◌, ◌%◌, ◌^◌, ◌<◌, ◌≤◌, sym, arith, refl, ap, ◌∙◌, add-one, List, length, Bool, true, false}
 use Rattle.std.specs.Prelude.{ℤ, pos, neg_ℤ, ◌+ℤ◌, ◌-ℤ◌, ◌≤ℤ◌, ◌<ℤ◌, unsigned_abs, slice_set, All, nat_eq, if◌then◌else◌}
-use Rattle.std.specs.Int.{w32, cast_signed, int_shr}
+use Rattle.std.specs.Int.{w32, cast_signed}
 use Rattle.std.proofs.lemmas.Int.{ints}
 use Rattle.fixed_math.specs.Rounding.{noise_after}
 use Rattle.fixed_math.proofs.RoundingLemmas.{shr_low, shr_high}
-use Rattle.spread_fold.specs.Items.{item, listed}
+use Rattle.spread_fold.specs.Items.{item}
 use Rattle.spread_fold.specs.Noise.{seed_after, noise_item, noise_items, folded_item, folded}
 use Rattle.spread_fold.proofs.ItemLemmas.{put_next, listed_from, all_listed, item_within}
 

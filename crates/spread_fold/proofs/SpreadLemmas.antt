@@ -1,15 +1,13 @@
 -- Turns of pairs: what each keeps of all items, and the angle and distance.
-use Rattle.std.proofs.Common.{◌≡◌, ◌≢◌, ◌⊎◌, ℕ, zero, suc, ◌+◌, ◌-◌, ◌*◌, ◌/◌, ◌%◌, ◌^◌, ◌<◌, ◌≤◌, sym, subst, inl, inr, arith, refl, ap, ◌∙◌, add-one, List, length, Bool, true, false}
-use Rattle.std.specs.Prelude.{ℤ, pos, neg_ℤ, ◌+ℤ◌, ◌-ℤ◌, ◌*ℤ◌, unsigned_abs, slice_set, All, nat_eq, nat_lt, nat_le, ◌||◌, if◌then◌else◌}
-use Rattle.std.specs.Int.{int_max, int_min}
+use Rattle.std.proofs.Common.{◌≡◌, ◌≢◌, ◌⊎◌, ℕ, zero, suc, ◌+◌, ◌-◌, ◌*◌, ◌/◌, ◌^◌, ◌<◌, ◌≤◌, sym, inl, inr, arith, refl, ap, ◌∙◌, add-one, List, length, Bool, true, false}
+use Rattle.std.specs.Prelude.{ℤ, neg_ℤ, unsigned_abs, slice_set, All, nat_eq, nat_lt, nat_le, ◌||◌, if◌then◌else◌}
 use Rattle.std.proofs.lemmas.Int.{ints, clamps}
 use Rattle.std.proofs.lemmas.Nat.{mul-le}
 use Rattle.std.proofs.lemmas.List.Elements.{All-set}
 use Rattle.std.proofs.lemmas.Bool.{lt-ltb, le-ltb, le-leb, lt-leb, ne_eqb}
-use Rattle.fixed_math.specs.Rounding.{rounded}
 use Rattle.fixed_math.specs.Circle.{cosine, sine}
 use Rattle.spread_fold.specs.Items.{item}
-use Rattle.spread_fold.specs.Spreading.{clamped, turned_first, turned_second, pair_turned, turned_up, turned_down, turned, turned_far, spread_run, spread_runs, first_from, is_far, distance, quarter_share, spread_divisor, spread_angle, spread_by}
+use Rattle.spread_fold.specs.Spreading.{clamped, turned_first, turned_second, pair_turned, turned_up, turned_down, turned, turned_far, spread_run, spread_runs, first_from, is_far, distance, spread_angle, spread_by}
 
 pub clamped_size : (z : ℤ) → unsigned_abs (clamped z) ≤ 2 ^ 17
 unfolding clamped

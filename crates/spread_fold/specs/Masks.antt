@@ -1,5 +1,5 @@
 -- Which blocks of a band have pulses (RFC 6716, 4.3.4.5 and 4.3.5).
-use Rattle.std.specs.Prelude.{ℕ, zero, suc, ◌+◌, ◌*◌, ◌/◌, ◌^◌, nat_eq, Bool, true, false, ◌||◌, not, if◌then◌else◌, ℤ, unsigned_abs, List, [], ◌∷◌, length, take, drop}
+use Rattle.std.specs.Prelude.{ℕ, zero, suc, ◌+◌, ◌*◌, ◌/◌, ◌^◌, nat_eq, Bool, false, ◌||◌, not, if◌then◌else◌, ℤ, unsigned_abs, List, [], ◌∷◌, length, take, drop}
 
 -- whether an item is not 0
 unfoldable pub has_pulse : List ℤ → Bool

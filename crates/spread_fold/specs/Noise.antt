@@ -1,5 +1,5 @@
 -- The noise of bands without pulses (RFC 6716, 4.3.4.4 and 4.3.5).
-use Rattle.std.specs.Prelude.{ℕ, zero, suc, ◌+◌, ◌/◌, ◌%◌, nat_eq, if◌then◌else◌, ℤ, pos, ◌+ℤ◌, ◌-ℤ◌, List, length}
+use Rattle.std.specs.Prelude.{ℕ, zero, suc, ◌/◌, ◌%◌, nat_eq, if◌then◌else◌, ℤ, pos, ◌+ℤ◌, ◌-ℤ◌, List, length}
 use Rattle.std.specs.Int.{w32, cast_signed, int_shr}
 use Rattle.fixed_math.specs.Rounding.{noise_after}
 use Rattle.spread_fold.specs.Items.{item, listed}

@@ -6,9 +6,11 @@
 mod masks;
 mod noise_items;
 mod spreading;
+mod stereo;
 #[cfg(test)]
 mod tests;
 
 pub use masks::mask_of;
 pub use noise_items::{fold, noise_fill};
 pub use spreading::rotate;
+pub use stereo::merge;

@@ -1,5 +1,5 @@
 //! Values of each call that were worked out apart from this crate, from the equations that its definitions state.
-use super::{fold, mask_of, noise_fill, rotate};
+use super::{fold, mask_of, merge, noise_fill, rotate};
 use fixed_math::Trig;
 
 #[test]
@@ -79,4 +79,34 @@ fn turns_of_blocks(rt: HostRuntime) {
             -2445, 2174, 2924
         ]
     );
+}
+
+#[test]
+fn channels(rt: HostRuntime) {
+    let mut x = [12_000i64, -9000, 3000];
+    let mut y = [-50i64, 4000, 7000];
+    merge(&mut x, &mut y, 23_170);
+    assert_eq!(rt; x, [9789, -11_886, -5595]);
+    assert_eq!(rt; y, [10_927, -3062, 11_816]);
+    let mut x = [16_384i64, 0];
+    let mut y = [0i64, 16_383];
+    merge(&mut x, &mut y, 32_767);
+    assert_eq!(rt; x, [11_585, -11_584]);
+    assert_eq!(rt; y, [11_585, 11_584]);
+    let mut x = [16_000i64, 100];
+    let mut y = [14_000i64, 90];
+    merge(&mut x, &mut y, 30_000);
+    assert_eq!(rt; x, [16_383, 50]);
+    assert_eq!(rt; y, [16_383, 104]);
+    // sums of squares of 161,061 and of 161,060
+    let mut x = [5i64, 6, 7];
+    let mut y = [401i64, 16, 2];
+    merge(&mut x, &mut y, 0);
+    assert_eq!(rt; x, [-16_370, -653, -81]);
+    assert_eq!(rt; y, [16_370, 653, 81]);
+    let mut x = [5i64, 6, 7, 8, 9];
+    let mut y = [401i64, 16, 1, 1, 1];
+    merge(&mut x, &mut y, 0);
+    assert_eq!(rt; x, [5, 6, 7, 8, 9]);
+    assert_eq!(rt; y, [5, 6, 7, 8, 9]);
 }

@@ -1,7 +1,6 @@
-use Rattle.std.proofs.Common.{◌≡◌, refl, ℕ, ◌+◌, ◌-◌, ◌*◌, ◌<◌, ◌≤◌, ◌^◌, length, ap, ◌∙◌, arith, List, take, drop}
+use Rattle.std.proofs.Common.{◌≡◌, refl, ℕ, ◌+◌, ◌-◌, ◌*◌, ◌^◌, ap, ◌∙◌, arith, List, take, drop}
 use Rattle.std.specs.Prelude.{ℤ, if◌then◌else◌}
 use Rattle.std.proofs.lemmas.Grind.{pow_more}
-use Rattle.std.proofs.lemmas.Nat.{mul-le}
 use Rattle.spread_fold.specs.Masks.{has_pulse, block_bits}
 use Rattle.spread_fold.proofs.MaskLemmas.{bits_more}
 use Rattle.spread_fold.proofs.masks.bits_of.Goals as goal

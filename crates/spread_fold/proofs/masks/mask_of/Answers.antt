@@ -1,4 +1,4 @@
-use Rattle.std.proofs.Common.{◌≡◌, ◌∙◌}
+use Rattle.std.proofs.Common.{◌∙◌}
 use Rattle.spread_fold.proofs.MaskLemmas.{mask_one, mask_more}
 use Rattle.spread_fold.proofs.masks.mask_of.Goals as goal
 

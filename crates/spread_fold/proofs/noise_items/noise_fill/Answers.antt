@@ -1,9 +1,9 @@
-use Rattle.std.proofs.Common.{◌≡◌, ℕ, suc, ◌+◌, ◌<◌, length, ap, ◌∙◌, arith, rules, to_z, of_z, List}
+use Rattle.std.proofs.Common.{◌≡◌, ℕ, suc, ◌<◌, length, ap, ◌∙◌, arith, rules, to_z, of_z}
 use Rattle.std.specs.Prelude.{ℤ, FitsSigned}
 use Rattle.std.specs.Int.{w64}
 use Rattle.std.proofs.lemmas.Int.{to_z-of_z}
 use Rattle.spread_fold.specs.Noise.{seed_after, noise_item}
-use Rattle.spread_fold.proofs.NoiseLemmas.{Filled, filled_start, filled_more, noise_end, noise_size}
+use Rattle.spread_fold.proofs.NoiseLemmas.{filled_start, filled_more, noise_end, noise_size}
 use Rattle.spread_fold.proofs.noise_items.noise_fill.Goals as goal
 
 pub loop-i-init : goal.loop-i-init

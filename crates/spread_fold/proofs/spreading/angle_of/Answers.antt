@@ -1,4 +1,3 @@
-use Rattle.std.proofs.Common.{arith}
 use Rattle.spread_fold.specs.Spreading.{spread_angle}
 use Rattle.spread_fold.proofs.SpreadLemmas.{divisor_size}
 use Rattle.spread_fold.proofs.spreading.angle_of.Goals as goal

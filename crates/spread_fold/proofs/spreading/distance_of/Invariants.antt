@@ -1,4 +1,4 @@
-use Rattle.std.proofs.Common.{◌≡◌, ◌<◌, ◌≤◌, ◌-◌, ◌+◌}
+use Rattle.std.proofs.Common.{◌≡◌, ◌≤◌, ◌-◌}
 use Rattle.spread_fold.specs.Spreading.{first_from, is_far}
 use Rattle.spread_fold.proofs.spreading.distance_of.Given as goal
 

@@ -1,4 +1,4 @@
-use Rattle.std.proofs.Common.{◌≡◌, ℕ, ap, ◌∙◌, arith, rules, inl, inr, subst, sym, ◌/◌, ◌<◌, ◌≤◌, ◌^◌, length, List}
+use Rattle.std.proofs.Common.{◌≡◌, ℕ, ap, ◌∙◌, arith, rules, inl, inr, subst, sym, ◌/◌, ◌≤◌, length, List}
 use Rattle.std.specs.Prelude.{ℤ, unsigned_abs, All, FitsSigned}
 use Rattle.std.specs.Int.{w64}
 use Rattle.std.proofs.lemmas.Int.{to_z-of_z}

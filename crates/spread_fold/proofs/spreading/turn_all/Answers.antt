@@ -1,7 +1,7 @@
 use Rattle.std.proofs.Common.{◌≡◌, ℕ, ap, ◌∙◌, ◌-◌, ◌*◌, arith, subst, sym, ◌<◌, ◌^◌}
 use Rattle.std.specs.Prelude.{unsigned_abs, All}
 use Rattle.std.proofs.lemmas.Int.{to_z-of_z}
-use Rattle.spread_fold.specs.Spreading.{turned_up, turned_down, turned_far}
+use Rattle.spread_fold.specs.Spreading.{turned_up, turned_down}
 use Rattle.spread_fold.proofs.SpreadLemmas.{keeps_up, far_some, far_none, small_below}
 use Rattle.spread_fold.proofs.spreading.turn_all.Goals as goal
 

@@ -1,4 +1,4 @@
-use Rattle.std.proofs.Common.{◌≡◌, ◌∙◌, ℕ, ◌+◌, ◌^◌, ◌<◌, ◌≤◌, arith, ap, rules, List}
+use Rattle.std.proofs.Common.{◌≡◌, ◌∙◌, ℕ, ◌+◌, arith, ap, rules, List}
 use Rattle.std.specs.Prelude.{ℤ, FitsSigned, pos, ◌+ℤ◌, ◌-ℤ◌, ◌*ℤ◌, neg_ℤ, slice_set}
 use Rattle.std.proofs.Math.IntN.{+ℤ_idl}
 use Rattle.std.specs.Int.{w64}

@@ -1,4 +1,4 @@
-use Rattle.std.proofs.Common.{◌≡◌, length, ◌/◌}
+use Rattle.std.proofs.Common.{◌≡◌}
 use Rattle.spread_fold.specs.Spreading.{spread_runs}
 use Rattle.spread_fold.proofs.spreading.turn_runs.Given as goal
 

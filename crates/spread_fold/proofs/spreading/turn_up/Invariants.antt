@@ -1,5 +1,4 @@
-use Rattle.std.proofs.Common.{◌≡◌, ◌<◌, ◌^◌}
-use Rattle.std.specs.Prelude.{unsigned_abs, All}
+use Rattle.std.proofs.Common.{◌≡◌}
 use Rattle.spread_fold.specs.Spreading.{turned_up}
 use Rattle.spread_fold.proofs.spreading.turn_up.Given as goal
 

@@ -1,7 +1,7 @@
-use Rattle.std.proofs.Common.{◌≡◌, ◌∙◌, ap, arith, rules, ◌^◌, ◌≤◌, ◌<◌}
-use Rattle.std.specs.Prelude.{ℤ, FitsSigned, pos, neg_ℤ, unsigned_abs, ◌*ℤ◌, ◌+ℤ◌}
+use Rattle.std.proofs.Common.{◌≡◌, ◌∙◌, ap, rules, ◌^◌}
+use Rattle.std.specs.Prelude.{FitsSigned, pos, neg_ℤ, ◌*ℤ◌, ◌+ℤ◌}
 use Rattle.std.specs.Int.{w64, int_max, int_min}
-use Rattle.std.proofs.lemmas.Int.{to_z-of_z, ints}
+use Rattle.std.proofs.lemmas.Int.{to_z-of_z}
 use Rattle.fixed_math.specs.Rounding.{rounded}
 use Rattle.spread_fold.specs.Spreading.{clamped}
 use Rattle.spread_fold.proofs.spreading.turned_number.Goals as goal
