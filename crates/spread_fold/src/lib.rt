@@ -3,6 +3,7 @@
 //! Every call is a whole-number formula; none takes memory.
 #![tactic(auto)]
 
+mod laws;
 mod masks;
 mod noise_items;
 mod spreading;
@@ -10,6 +11,7 @@ mod stereo;
 #[cfg(test)]
 mod tests;
 
+pub use laws::{law_distance, law_mask};
 pub use masks::mask_of;
 pub use noise_items::{fold, noise_fill};
 pub use spreading::rotate;
