@@ -1,0 +1,6 @@
+pub mod ItemLemmas
+pub mod MaskLemmas
+pub mod NoiseLemmas
+pub mod SpreadLemmas
+pub mod StereoLemmas
+pub mod LawLemmas
