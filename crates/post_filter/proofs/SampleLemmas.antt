@@ -1,5 +1,5 @@
 -- Samples: the parts of a gain's exponent, the products at 128 bits, and the places that are written.
-use Rattle.std.proofs.Common.{◌≡◌, ◌≢◌, ℕ, zero, suc, ◌+◌, ◌-◌, ◌*◌, ◌/◌, ◌%◌, ◌^◌, ◌<◌, ◌≤◌, sym, subst, inl, inr, arith, refl, ap, ◌∙◌, List, length, get_or}
+use Rattle.std.proofs.Common.{◌≡◌, ◌≢◌, ℕ, ◌+◌, ◌-◌, ◌*◌, ◌/◌, ◌%◌, ◌^◌, ◌<◌, ◌≤◌, sym, inl, inr, arith, refl, ap, ◌∙◌, List, length}
 use Rattle.std.specs.Prelude.{ℤ, pos, negsuc, ◌+ℤ◌, ◌-ℤ◌, ◌*ℤ◌, ◌≤ℤ◌, ◌<ℤ◌, unsigned_abs, slice_set, FitsSigned}
 use Rattle.std.specs.Int.{int_shr, w16, w64, w128, cast_signed as to_z}
 use Rattle.std.proofs.lemmas.Nat.{mul-le, one_shl}
@@ -7,10 +7,10 @@ use Rattle.std.proofs.lemmas.Int.{ints, fits_signed_from_abs, to_z_pos}
 use Rattle.std.proofs.lemmas.Bool.{cases_eq}
 use Rattle.std.proofs.lemmas.List.{get_or-set_same, get_or-set_other}
 use Rattle.std.proofs.Math.Nat.{pow-le-pow_right}
-use Rattle.fixed_math.specs.Powers.{mantissa, fraction}
+use Rattle.fixed_math.specs.Powers.{mantissa}
 use Rattle.fixed_math.specs.Rounding.{rounded}
 use Rattle.fixed_math.proofs.PowerLemmas.{fraction-first, mantissa-fraction}
-use Rattle.fixed_math.proofs.RoundingLemmas.{shr_low, shr_high, shr_within, product_within, product_rounded, round_within}
+use Rattle.fixed_math.proofs.RoundingLemmas.{shr_low, shr_high, shr_within, product_within, round_within}
 use Rattle.post_filter.specs.Items.{item}
 use Rattle.post_filter.specs.Samples.{exponent, octave, place, amplified, saturated, sample_of, ArePut}
 
@@ -161,7 +161,7 @@ pub record FactorSteps (e : ℤ) : Type 0 where
   pub left_high : (pos 42 -ℤ int_shr e 10) ≤ℤ pos 64
 
 steps_from : (e h : ℤ) → unsigned_abs e ≤ 21771 → (pos 1024 *ℤ h) ≤ℤ e → e <ℤ (pos 1024 *ℤ h +ℤ pos 1024) → (negsuc 21 ≤ℤ h) × (h ≤ℤ pos 21)
-steps_from e h p q r = (omega (arith, ints) , omega (arith, ints))
+steps_from e h p q r = (omega (arith, ints), omega (arith, ints))
 
 pub factor_steps : (e : ℤ) → unsigned_abs e ≤ 21771 → FactorSteps e
 factor_steps e g =

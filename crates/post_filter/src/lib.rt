@@ -3,12 +3,12 @@
 //! memory.
 #![tactic(auto)]
 
+mod conversion;
 mod emphasis;
 mod laws;
-mod conversion;
 #[cfg(test)]
 mod tests;
 
+pub use conversion::{sample, samples};
 pub use emphasis::deemphasis;
 pub use laws::{law_amplified, law_deemphasis, law_saturated};
-pub use conversion::{sample, samples};

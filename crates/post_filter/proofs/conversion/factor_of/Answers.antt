@@ -1,9 +1,8 @@
-use Rattle.std.proofs.Common.{◌≡◌, ℕ, ◌^◌, ◌<◌, ◌≤◌, ap, arith, rules, subst, sym, ◌∙◌}
+use Rattle.std.proofs.Common.{◌≡◌, ap, arith, rules, ◌∙◌}
 use Rattle.std.specs.Prelude.{ℤ, pos, FitsSigned, ◌-ℤ◌, ◌*ℤ◌, unsigned_abs}
 use Rattle.std.specs.Int.{int_shr, w64}
-use Rattle.std.proofs.lemmas.Int.{ints, to_z-of_z, fits_signed_from_abs}
+use Rattle.std.proofs.lemmas.Int.{ints, to_z-of_z}
 use Rattle.fixed_math.specs.Powers.{mantissa}
-use Rattle.fixed_math.specs.Rounding.{rounded}
 use Rattle.post_filter.specs.Samples.{exponent, octave, place}
 use Rattle.post_filter.proofs.SampleLemmas.{factor_steps}
 use Rattle.post_filter.proofs.conversion.factor_of.Goals as goal
@@ -66,4 +65,4 @@ returns-clause-range c =
     let w = t.left in
     let l = t.left_low in
     let h = t.left_high in
-    simp to_z-of_z ((omega (arith, ints) , omega (arith, ints)))
+    simp to_z-of_z ((omega (arith, ints), omega (arith, ints)))
