@@ -1,0 +1,2 @@
+pub mod DeemphasisLemmas
+pub mod SampleLemmas

@@ -1,0 +1,3 @@
+pub mod Deemphasis
+pub mod Items
+pub mod Samples
