@@ -1,4 +1,6 @@
 //! Values of each call that were worked out apart from this crate, from the equations that its definitions state.
+ghost use Rattle.std.specs.Prelude.{◌≡◌, ◌%◌, ◌^◌, ◌<◌, ◌≤◌, All, unsigned_abs};
+
 use super::{fold, mask_of, merge, noise_fill, rotate};
 use fixed_math::Trig;
 
@@ -109,4 +111,62 @@ fn channels(rt: HostRuntime) {
     merge(&mut x, &mut y, 0);
     assert_eq!(rt; x, [5, 6, 7, 8, 9]);
     assert_eq!(rt; y, [5, 6, 7, 8, 9]);
+}
+
+// Steps of noise, 16000 in size at most.
+const LEVELS: [i64; 128] = [
+    -352, 11865, -7861, 12749, -12767, 8083, 7657, -12520, -11493, -15519, 15752, -13185, 13612,
+    -12098, -8350, 2947, 3104, 11399, 15071, 7845, 7754, 15556, -9975, 1094, 6669, 7469, -4279,
+    -15662, -8001, 13804, 13905, -8922, -8528, -7265, 2647, -10460, -8315, 12708, 1414, -9302,
+    7117, 4497, -14417, -1360, 4300, -5633, 9286, -7004, 8858, -14705, 15756, -4326, 626, 12335,
+    -9467, -15707, -4539, 12439, -4298, -15866, -2674, 1808, -6518, -12414, 619, 9855, 8336, 10650,
+    -6165, 6303, -14996, 15576, 3491, 14729, 5262, 9987, -2426, 2172, 14237, -1152, -2317, -12584,
+    3257, 6130, 1806, -2196, -14625, 1569, 11350, 5618, 7086, -2531, 9068, -2600, -3512, -2145,
+    12860, 1602, -13669, 6072, -9414, 9293, 14533, 1188, 8455, 2710, -822, -3072, -9662, -11010,
+    655, 5919, -11117, 7844, -12273, 951, 12553, -14788, 11710, -3133, 2473, 7554, 5207, -15456,
+    14402, -14073, 9911, -380,
+];
+
+fn levels() -> [i64; 128]
+    ensures { All (λ v. unsigned_abs v < 2 ^ 20) result }
+{
+    LEVELS
+}
+
+/// The numbers of a list in one: c becomes c * 1000003 + x modulo 2^64 for each x.
+fn digest(x: &[i64]) -> u64 {
+    let mut sum: u64 = 0;
+    for v in x {
+        sum = sum.wrapping_mul(1_000_003).wrapping_add(v.cast_unsigned());
+    }
+    sum
+}
+
+/// The digest of the levels after their turns.
+fn turned(trig: &Trig, blocks: u32, k: u32, spread: u32, forward: bool) -> u64
+    requires blocks { (1 ≤ blocks) × (blocks ≤ 16) }
+    requires runs { 128 % blocks ≡ 0 }
+    requires pulses { (1 ≤ k) × (k ≤ 4096) }
+    requires spread { spread ≤ 3 }
+{
+    let mut x = levels();
+    rotate(&mut x, trig, blocks, k, spread, forward);
+    digest(&x)
+}
+
+// Far pairs in 1 to 16 blocks, and pulses below, at and above half of the items.
+#[test]
+fn turns_of_many_blocks(rt: HostRuntime) {
+    let trig = Trig::new();
+    assert_eq!(rt; turned(&trig, 1, 1, 1, false), 11614154874920890975);
+    assert_eq!(rt; turned(&trig, 2, 1, 2, true), 18174485472836932243);
+    assert_eq!(rt; turned(&trig, 4, 1, 2, true), 4260185079226418338);
+    assert_eq!(rt; turned(&trig, 4, 9, 3, false), 9176467007154287652);
+    assert_eq!(rt; turned(&trig, 8, 2, 3, true), 17906996836760499815);
+    assert_eq!(rt; turned(&trig, 8, 3, 1, false), 1762060288327377981);
+    assert_eq!(rt; turned(&trig, 16, 1, 1, false), 4920363312418461786);
+    assert_eq!(rt; turned(&trig, 16, 1, 1, true), 6625097376400016751);
+    assert_eq!(rt; turned(&trig, 16, 63, 3, false), 13435250259854926752);
+    assert_eq!(rt; turned(&trig, 16, 64, 3, false), 14185303781724794505);
+    assert_eq!(rt; turned(&trig, 16, 65, 3, true), 14185303781724794505);
 }
