@@ -2,7 +2,7 @@
 ghost use Rattle.std.specs.Prelude.{◌≡◌, ◌%◌, ◌^◌, ◌<◌, ◌≤◌, All, unsigned_abs};
 
 use super::{fold, mask_of, merge, noise_fill, rotate};
-use fixed_math::Trig;
+use fixed_math::{Trig, noise};
 
 #[test]
 fn masks(rt: HostRuntime) {
@@ -113,24 +113,24 @@ fn channels(rt: HostRuntime) {
     assert_eq!(rt; y, [5, 6, 7, 8, 9]);
 }
 
-// Steps of noise, 16000 in size at most.
-const LEVELS: [i64; 128] = [
-    -352, 11865, -7861, 12749, -12767, 8083, 7657, -12520, -11493, -15519, 15752, -13185, 13612,
-    -12098, -8350, 2947, 3104, 11399, 15071, 7845, 7754, 15556, -9975, 1094, 6669, 7469, -4279,
-    -15662, -8001, 13804, 13905, -8922, -8528, -7265, 2647, -10460, -8315, 12708, 1414, -9302,
-    7117, 4497, -14417, -1360, 4300, -5633, 9286, -7004, 8858, -14705, 15756, -4326, 626, 12335,
-    -9467, -15707, -4539, 12439, -4298, -15866, -2674, 1808, -6518, -12414, 619, 9855, 8336, 10650,
-    -6165, 6303, -14996, 15576, 3491, 14729, 5262, 9987, -2426, 2172, 14237, -1152, -2317, -12584,
-    3257, 6130, 1806, -2196, -14625, 1569, 11350, 5618, 7086, -2531, 9068, -2600, -3512, -2145,
-    12860, 1602, -13669, 6072, -9414, 9293, 14533, 1188, 8455, 2710, -822, -3072, -9662, -11010,
-    655, 5919, -11117, 7844, -12273, 951, 12553, -14788, 11710, -3133, 2473, 7554, 5207, -15456,
-    14402, -14073, 9911, -380,
-];
+// An item of 16000 in size at most, from a state of the noise.
+fn level(state: u32) -> i64
+    ensures { unsigned_abs result < 2 ^ 20 }
+{
+    ((state >> 16) % 32_001) as i64 - 16_000
+}
 
+/// Steps of the noise from 7.
 fn levels() -> [i64; 128]
     ensures { All (λ v. unsigned_abs v < 2 ^ 20) result }
 {
-    LEVELS
+    let mut x = [0i64; 128];
+    let mut state = 7;
+    for i in 0..128usize {
+        state = noise(state);
+        x[i] = level(state);
+    }
+    x
 }
 
 /// The numbers of a list in one: c becomes c * 1000003 + x modulo 2^64 for each x.
