@@ -1,6 +1,8 @@
 //! Values of each call that were worked out apart from this crate, from the equations that its definitions state.
+ghost use Rattle.std.specs.Prelude.{◌≡◌, ◌%◌, ◌^◌, ◌<◌, ◌≤◌, All, unsigned_abs};
+
 use super::{fold, mask_of, merge, noise_fill, rotate};
-use fixed_math::Trig;
+use fixed_math::{Trig, noise};
 
 #[test]
 fn masks(rt: HostRuntime) {
@@ -109,4 +111,62 @@ fn channels(rt: HostRuntime) {
     merge(&mut x, &mut y, 0);
     assert_eq!(rt; x, [5, 6, 7, 8, 9]);
     assert_eq!(rt; y, [5, 6, 7, 8, 9]);
+}
+
+// An item of 16000 in size at most, from a state of the noise.
+fn level(state: u32) -> i64
+    ensures { unsigned_abs result < 2 ^ 20 }
+{
+    ((state >> 16) % 32_001) as i64 - 16_000
+}
+
+/// Steps of the noise from 7.
+fn levels() -> [i64; 128]
+    ensures { All (λ v. unsigned_abs v < 2 ^ 20) result }
+{
+    let mut x = [0i64; 128];
+    let mut state = 7;
+    for i in 0..128usize {
+        state = noise(state);
+        x[i] = level(state);
+    }
+    x
+}
+
+/// The numbers of a list in one: c becomes c * 1000003 + x modulo 2^64 for each x.
+fn digest(x: &[i64]) -> u64 {
+    let mut sum: u64 = 0;
+    for v in x {
+        sum = sum.wrapping_mul(1_000_003).wrapping_add(v.cast_unsigned());
+    }
+    sum
+}
+
+/// The digest of the levels after their turns.
+fn turned(trig: &Trig, blocks: u32, k: u32, spread: u32, forward: bool) -> u64
+    requires blocks { (1 ≤ blocks) × (blocks ≤ 16) }
+    requires runs { 128 % blocks ≡ 0 }
+    requires pulses { (1 ≤ k) × (k ≤ 4096) }
+    requires spread { spread ≤ 3 }
+{
+    let mut x = levels();
+    rotate(&mut x, trig, blocks, k, spread, forward);
+    digest(&x)
+}
+
+// Far pairs in 1 to 16 blocks, and pulses below, at and above half of the items.
+#[test]
+fn turns_of_many_blocks(rt: HostRuntime) {
+    let trig = Trig::new();
+    assert_eq!(rt; turned(&trig, 1, 1, 1, false), 11614154874920890975);
+    assert_eq!(rt; turned(&trig, 2, 1, 2, true), 18174485472836932243);
+    assert_eq!(rt; turned(&trig, 4, 1, 2, true), 4260185079226418338);
+    assert_eq!(rt; turned(&trig, 4, 9, 3, false), 9176467007154287652);
+    assert_eq!(rt; turned(&trig, 8, 2, 3, true), 17906996836760499815);
+    assert_eq!(rt; turned(&trig, 8, 3, 1, false), 1762060288327377981);
+    assert_eq!(rt; turned(&trig, 16, 1, 1, false), 4920363312418461786);
+    assert_eq!(rt; turned(&trig, 16, 1, 1, true), 6625097376400016751);
+    assert_eq!(rt; turned(&trig, 16, 63, 3, false), 13435250259854926752);
+    assert_eq!(rt; turned(&trig, 16, 64, 3, false), 14185303781724794505);
+    assert_eq!(rt; turned(&trig, 16, 65, 3, true), 14185303781724794505);
 }
