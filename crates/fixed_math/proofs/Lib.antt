@@ -1,6 +1,7 @@
 pub mod AngleLemmas
 pub mod BitexactLemmas
 pub mod IntLemmas
+pub mod ItemLemmas
 pub mod PowerLemmas
 pub mod RootLemmas
 pub mod RoundingLemmas

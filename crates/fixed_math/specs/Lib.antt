@@ -1,5 +1,6 @@
 pub mod Bitexact
 pub mod Circle
+pub mod Items
 pub mod Octave
 pub mod Powers
 pub mod Quarter

@@ -5,7 +5,7 @@ use Rattle.std.proofs.lemmas.Int.{ints}
 use Rattle.std.proofs.lemmas.Bool.{cases_eq}
 use Rattle.std.proofs.lemmas.List.{get_or-set_same, get_or-set_other, get_or_default, ext_get_or}
 use Rattle.fixed_math.proofs.RoundingLemmas.{product_rounded}
-use Rattle.post_filter.specs.Items.{item}
+use Rattle.fixed_math.specs.Items.{item}
 use Rattle.post_filter.specs.Deemphasis.{before, remainder, IsDeemphasis}
 
 -- an output stays in its bound

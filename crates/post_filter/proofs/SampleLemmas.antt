@@ -11,7 +11,7 @@ use Rattle.fixed_math.specs.Powers.{mantissa}
 use Rattle.fixed_math.specs.Rounding.{rounded}
 use Rattle.fixed_math.proofs.PowerLemmas.{fraction-first, mantissa-fraction}
 use Rattle.fixed_math.proofs.RoundingLemmas.{shr_low, shr_high, shr_within, product_within, round_within}
-use Rattle.post_filter.specs.Items.{item}
+use Rattle.fixed_math.specs.Items.{item}
 use Rattle.post_filter.specs.Samples.{exponent, octave, place, amplified, saturated, sample_of, ArePut}
 
 -- the parts of an exponent

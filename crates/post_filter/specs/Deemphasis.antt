@@ -1,7 +1,7 @@
 -- De-emphasis (RFC 6716, 4.3.7.2): the filter 1 / (1 - 0.85 z^-1), where 0.85 is 27853 / 2^15.
 use Rattle.std.specs.Prelude.{◌≡◌, ℕ, zero, suc, ◌<◌, ℤ, pos, ◌+ℤ◌, ◌*ℤ◌, List, length}
 use Rattle.fixed_math.specs.Rounding.{rounded}
-use Rattle.post_filter.specs.Items.{item}
+use Rattle.fixed_math.specs.Items.{item}
 
 -- the output before output n: the memory, where there is none in the list
 abbrev pub before : ℤ → List ℤ → ℕ → ℤ

@@ -1,3 +1,2 @@
 pub mod Deemphasis
-pub mod Items
 pub mod Samples

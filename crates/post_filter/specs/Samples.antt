@@ -4,7 +4,7 @@ use Rattle.std.specs.Prelude.{◌≡◌, ◌≢◌, ℕ, ◌+◌, ◌*◌, ◌<�
 use Rattle.std.specs.Int.{int_shr}
 use Rattle.fixed_math.specs.Powers.{mantissa}
 use Rattle.fixed_math.specs.Rounding.{rounded}
-use Rattle.post_filter.specs.Items.{item}
+use Rattle.fixed_math.specs.Items.{item}
 
 -- the gain as a power of two, in units of 1/1024: a dB is 1024 * log2(10) / 20 of them, and 1/256 dB is 696659 / 2^20
 unfoldable pub exponent : ℤ → ℤ

@@ -1,4 +1,3 @@
-pub mod ItemLemmas
 pub mod MaskLemmas
 pub mod NoiseLemmas
 pub mod SpreadLemmas

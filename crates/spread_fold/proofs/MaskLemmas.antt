@@ -3,7 +3,7 @@ use Rattle.std.proofs.Common.{◌≡◌, ◌≢◌, ℕ, suc, ◌+◌, ◌*◌, 
 use Rattle.std.specs.Prelude.{ℤ, pos, unsigned_abs, nat_eq, ◌||◌, not, if◌then◌else◌}
 use Rattle.std.proofs.lemmas.Bool.{ne_eqb}
 use Rattle.std.proofs.Math.ListN.{drop_of_length-le}
-use Rattle.spread_fold.specs.Items.{item}
+use Rattle.fixed_math.specs.Items.{item}
 use Rattle.spread_fold.specs.Masks.{has_pulse, block_bits, mask}
 
 pub pulse_here : (y : List ℤ) (i : ℕ) → i < length y → unsigned_abs (item y i) ≢ 0 → has_pulse (drop i y) ≡ true

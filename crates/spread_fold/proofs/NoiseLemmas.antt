@@ -5,9 +5,9 @@ use Rattle.std.specs.Int.{w32, cast_signed}
 use Rattle.std.proofs.lemmas.Int.{ints}
 use Rattle.fixed_math.specs.Rounding.{noise_after}
 use Rattle.fixed_math.proofs.RoundingLemmas.{shr_low, shr_high}
-use Rattle.spread_fold.specs.Items.{item}
+use Rattle.fixed_math.specs.Items.{item}
 use Rattle.spread_fold.specs.Noise.{seed_after, noise_item, noise_items, folded_item, folded}
-use Rattle.spread_fold.proofs.ItemLemmas.{put_next, listed_from, all_listed, item_within}
+use Rattle.fixed_math.proofs.ItemLemmas.{put_next, listed_from, all_listed, item_within}
 
 -- after i items: what they are, and the state
 pub record Filled (i seed state : ℕ) (f : ℕ → ℤ) (out : List ℤ) : Type 0 where

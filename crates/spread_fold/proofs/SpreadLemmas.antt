@@ -6,7 +6,7 @@ use Rattle.std.proofs.lemmas.Nat.{mul-le}
 use Rattle.std.proofs.lemmas.List.Elements.{All-set}
 use Rattle.std.proofs.lemmas.Bool.{lt-ltb, le-ltb, le-leb, lt-leb, ne_eqb}
 use Rattle.fixed_math.specs.Circle.{cosine, sine}
-use Rattle.spread_fold.specs.Items.{item}
+use Rattle.fixed_math.specs.Items.{item}
 use Rattle.spread_fold.specs.Spreading.{clamped, turned_first, turned_second, pair_turned, turned_up, turned_down, turned, turned_far, spread_run, spread_runs, first_from, is_far, distance, spread_angle, spread_by}
 
 pub clamped_size : (z : ℤ) → unsigned_abs (clamped z) ≤ 2 ^ 17

@@ -8,9 +8,9 @@ use Rattle.std.proofs.lemmas.List.FromFn.{sum_by-map-range_with_len_more}
 use Rattle.fixed_math.specs.Rounding.{rounded}
 use Rattle.fixed_math.specs.Unit.{square, energy, unit_of}
 use Rattle.fixed_math.proofs.RoundingLemmas.{product_rounded}
-use Rattle.spread_fold.specs.Items.{item, listed}
+use Rattle.fixed_math.specs.Items.{item, listed}
 use Rattle.spread_fold.specs.Stereo.{channel_item, channel, is_faint, merged}
-use Rattle.spread_fold.proofs.ItemLemmas.{put_next, listed_from, all_listed, item_below}
+use Rattle.fixed_math.proofs.ItemLemmas.{put_next, listed_from, all_listed, item_below}
 
 -- the sum of the squares so far
 pub record Summed (i sum : ℕ) (f : ℕ → ℤ) : Type 0 where

@@ -1,4 +1,3 @@
-pub mod Items
 pub mod Masks
 pub mod Noise
 pub mod Spreading

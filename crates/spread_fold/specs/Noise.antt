@@ -2,7 +2,7 @@
 use Rattle.std.specs.Prelude.{ℕ, zero, suc, ◌/◌, ◌%◌, nat_eq, if◌then◌else◌, ℤ, pos, ◌+ℤ◌, ◌-ℤ◌, List, length}
 use Rattle.std.specs.Int.{w32, cast_signed, int_shr}
 use Rattle.fixed_math.specs.Rounding.{noise_after}
-use Rattle.spread_fold.specs.Items.{item, listed}
+use Rattle.fixed_math.specs.Items.{item, listed}
 
 -- the noise's state n steps after a seed
 unfoldable pub seed_after : ℕ → ℕ → ℕ

@@ -3,7 +3,7 @@ use Rattle.std.specs.Prelude.{ℕ, zero, suc, ◌+◌, ◌-◌, ◌*◌, ◌/◌
 use Rattle.std.specs.Int.{int_max, int_min}
 use Rattle.fixed_math.specs.Circle.{cosine, sine}
 use Rattle.fixed_math.specs.Rounding.{rounded}
-use Rattle.spread_fold.specs.Items.{item}
+use Rattle.fixed_math.specs.Items.{item}
 
 -- at most 2^17 in size
 unfoldable pub clamped : ℤ → ℤ

@@ -2,7 +2,7 @@
 use Rattle.std.specs.Prelude.{nat_lt, Bool, true, false, ◌||◌, if◌then◌else◌, ℤ, pos, ◌+ℤ◌, ◌-ℤ◌, ◌*ℤ◌, List, length}
 use Rattle.fixed_math.specs.Rounding.{rounded}
 use Rattle.fixed_math.specs.Unit.{energy, unit_of}
-use Rattle.spread_fold.specs.Items.{item, listed}
+use Rattle.fixed_math.specs.Items.{item, listed}
 
 -- the middle v, weighed, and the side w: their sum is the right, their difference the left
 abbrev pub channel_item : ℤ → Bool → ℤ → ℤ → ℤ

@@ -7,8 +7,8 @@ use Rattle.std.proofs.lemmas.Bool.{cases_lt, cases_eq}
 use Rattle.std.proofs.lemmas.List.{get_or-set_same, get_or-set_other, length-set, get_or_default}
 use Rattle.fixed_math.proofs.RoundingLemmas.{rounded_low, rounded_high}
 use Rattle.tf_change.specs.Haar.{scaled, haar_item, haar_of}
-use Rattle.tf_change.specs.Items.{item}
-use Rattle.tf_change.proofs.ItemLemmas.{item-listed, length-listed, listed_from, item_within}
+use Rattle.fixed_math.specs.Items.{item}
+use Rattle.fixed_math.proofs.ItemLemmas.{item-listed, length-listed, listed_from, item_within}
 
 pub haar-sum : (s j k p : ℕ) (xs : List ℤ) → k < s → p ≡ 2 * s * j + k → haar_item s xs p ≡ scaled (item xs p) +ℤ scaled (item xs (p + s))
 haar-sum s j k p xs h e =

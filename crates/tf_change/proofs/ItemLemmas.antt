@@ -1,39 +1,10 @@
--- Lists by places: one place written, a run of places more, and lists that agree at each place.
+-- Lists by places: one place of a run written, and a run of places more.
 use Rattle.std.proofs.Common.{◌≡◌, ◌≢◌, ℕ, ◌+◌, ◌-◌, ◌*◌, ◌<◌, ◌≤◌, sym, subst, inl, inr, arith, refl, ◌∙◌, List, length, get_or}
 use Rattle.std.specs.Prelude.{ℤ, pos, unsigned_abs, slice_set, All}
 use Rattle.std.proofs.lemmas.Bool.{cases_lt, cases_eq}
 use Rattle.std.proofs.lemmas.List.{get_or-set_same, get_or-set_other, same_lists, get_or_default, get_or_past}
 use Rattle.std.proofs.lemmas.List.FromFn.{get_or-map-range_with_len, length-map-range_with_len}
-use Rattle.tf_change.specs.Items.{item, listed}
-
--- an item of a list that is given by its places
-pub item-listed : (n : ℕ) (f : ℕ → ℤ) (p : ℕ) → p < n → item (listed n f) p ≡ f p
-item-listed n f p h = get_or-map-range_with_len f 0 n p p (pos 0) h (omega arith)
-
-pub length-listed : (n : ℕ) (f : ℕ → ℤ) → length (listed n f) ≡ n
-length-listed n f = length-map-range_with_len f 0 n
-
--- lists that agree at each place are one
-pub same_items : (xs ys : List ℤ) → length xs ≡ length ys → ((p : ℕ) → p < length xs → item xs p ≡ item ys p) → xs ≡ ys
-same_items xs ys e h = same_lists xs ys e same
-  where
-    same : (k : ℕ) (d : ℤ) → k < length xs → get_or xs k d ≡ get_or ys k d
-    same k d l =
-        let a : get_or xs k d ≡ item xs k = get_or_default xs k d (pos 0) l in
-        let b : get_or ys k d ≡ item ys k = get_or_default ys k d (pos 0) (omega arith) in
-        a ∙ h k l ∙ sym b
-
--- a list is the one that its places give
-pub listed_from : (xs : List ℤ) (n : ℕ) (f : ℕ → ℤ) → length xs ≡ n → ((p : ℕ) → p < n → item xs p ≡ f p) → xs ≡ listed n f
-listed_from xs n f e h =
-    same_items xs (listed n f) (e ∙ sym (length-listed n f)) (λ p l. let q : p < n = omega arith in h p q ∙ sym (item-listed n f p q))
-
--- a bound of each item of a list bounds what is read at any place
-pub item_within : (xs : List ℤ) (m p : ℕ) → All (λ v. unsigned_abs v ≤ m) xs → unsigned_abs (item xs p) ≤ m
-item_within xs m p h = elim (cases_lt p (length xs)) [
-  | inl l ↦ h p (pos 0) l
-  | inr l ↦ let e : item xs p ≡ pos 0 = get_or_past xs p (pos 0) l in subst (λ v. unsigned_abs v ≤ m) (sym e) (omega arith)
-]
+use Rattle.fixed_math.specs.Items.{item, listed}
 
 -- one place of a run more
 pub put_here : (xs : List ℤ) (start j : ℕ) (f : ℕ → ℤ) (v : ℤ) → start + j < length xs → v ≡ f j → ((k : ℕ) → k < j → item xs (start + k) ≡ f k) → (k : ℕ) → k < j + 1 → item (slice_set xs (start + j) v) (start + k) ≡ f k
@@ -62,12 +33,6 @@ run_more old new k n f done same here p h = elim (cases_lt p (k * n)) [
       let e : k * n + (p - k * n) ≡ p = omega arith in
       let q : p - k * n < n = omega arith in
       subst (λ i. item new i ≡ f i) e (here (p - k * n) q)
-]
-
-pub item_below : (xs : List ℤ) (m p : ℕ) → 0 < m → All (λ v. unsigned_abs v < m) xs → unsigned_abs (item xs p) < m
-item_below xs m p s h = elim (cases_lt p (length xs)) [
-  | inl l ↦ h p (pos 0) l
-  | inr l ↦ let e : item xs p ≡ pos 0 = get_or_past xs p (pos 0) l in subst (λ v. unsigned_abs v < m) (sym e) (omega arith)
 ]
 
 -- the first j places of a run are put, and those before it stay

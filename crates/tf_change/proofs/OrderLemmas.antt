@@ -3,9 +3,9 @@ use Rattle.std.proofs.Common.{◌≡◌, ℕ, zero, suc, ◌+◌, ◌-◌, ◌*�
 use Rattle.std.specs.Prelude.{ℤ, IsTrue, nat_eq, nat_lt, slice_index}
 use Rattle.std.proofs.lemmas.Nat.{div-mul-add, mod-mul-add, mul-add-lt, mod_below, div_below, div-add-mod'}
 use Rattle.std.proofs.lemmas.Bool.{cases_lt, and_parts, eqb-true, ltb-true}
-use Rattle.tf_change.specs.Items.{item}
+use Rattle.fixed_math.specs.Items.{item}
 use Rattle.tf_change.specs.Order.{HasRow, hadamard_rows, index_of, place_of, block_at, ordered, unordered}
-use Rattle.tf_change.proofs.ItemLemmas.{item-listed, length-listed, same_items}
+use Rattle.fixed_math.proofs.ItemLemmas.{item-listed, length-listed, same_items}
 
 -- a test that holds of each number below a bound
 unfoldable pub holds_below : (ℕ → Bool) → ℕ → Bool

@@ -1,7 +1,7 @@
 -- The Haar step (RFC 6716, 4.3.4.5).
 use Rattle.std.specs.Prelude.{ℕ, ◌+◌, ◌-◌, ◌/◌, ◌%◌, nat_eq, if◌then◌else◌, ℤ, pos, ◌+ℤ◌, ◌-ℤ◌, ◌*ℤ◌, List, length}
 use Rattle.fixed_math.specs.Rounding.{rounded}
-use Rattle.tf_change.specs.Items.{item, listed}
+use Rattle.fixed_math.specs.Items.{item, listed}
 
 -- v over the root of 2, which is v times 23170 / 2^15, rounded
 unfoldable pub scaled : ℤ → ℤ

@@ -1,3 +1,2 @@
 pub mod Haar
-pub mod Items
 pub mod Order

@@ -1,6 +1,6 @@
 -- Coefficients of short blocks, interleaved and block by block (RFC 6716, 4.3.4.5).
 use Rattle.std.specs.Prelude.{◌≡◌, ◌⊎◌, ℕ, suc, ◌+◌, ◌-◌, ◌*◌, ◌/◌, ◌%◌, nat_eq, Bool, if◌then◌else◌, ℤ, List, [], ◌∷◌, length, drop, slice_index}
-use Rattle.tf_change.specs.Items.{item, listed}
+use Rattle.fixed_math.specs.Items.{item, listed}
 
 -- the order of Hadamard sequences for 2, 4, 8 and 16 blocks: the row for s blocks begins at entry s - 2 and says for each block to which place it goes
 unfoldable pub hadamard_rows : List ℕ

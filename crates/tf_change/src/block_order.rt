@@ -2,7 +2,7 @@
 //! gives them, with the first of each block, then the second of each; and block by block, where the blocks can
 //! stand in the order of Hadamard sequences.
 ghost use Rattle.std.specs.Prelude.{◌≡◌, ℕ, ◌+◌, ◌*◌, ◌<◌, ◌≤◌, length, IsTrue};
-ghost use Rattle.tf_change.specs.Items.{item};
+ghost use Rattle.fixed_math.specs.Items.{item};
 ghost use Rattle.tf_change.specs.Order.{HasRow, place_of, block_at, ordered, unordered};
 
 /// For 2, 4, 8 and 16 blocks the places of the blocks in the order of Hadamard sequences. The row for `s` blocks

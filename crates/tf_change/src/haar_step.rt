@@ -2,7 +2,7 @@
 //! the second their differences, each over the root of 2.
 ghost use Rattle.std.specs.Prelude.{◌≡◌, ◌⊎◌, ◌≢◌, ℕ, ◌+◌, ◌*◌, ◌/◌, ◌%◌, ◌^◌, ◌<◌, ◌≤◌, ◌+ℤ◌, ◌-ℤ◌, unsigned_abs, length, All};
 ghost use Rattle.tf_change.specs.Haar.{scaled, haar_of};
-ghost use Rattle.tf_change.specs.Items.{item};
+ghost use Rattle.fixed_math.specs.Items.{item};
 
 use fixed_math::mulr;
 

@@ -1,7 +1,7 @@
 //! Laws of the definitions alone. No body does anything.
 ghost use Rattle.std.specs.Prelude.{◌≡◌, ℕ, ℤ, Bool, true, List, ◌+◌, ◌-◌, ◌*◌, ◌/◌, ◌<◌, ◌≤◌, ◌+ℤ◌, ◌-ℤ◌, unsigned_abs, length, All, IsTrue};
 ghost use Rattle.tf_change.specs.Haar.{scaled, haar_of};
-ghost use Rattle.tf_change.specs.Items.{item};
+ghost use Rattle.fixed_math.specs.Items.{item};
 ghost use Rattle.tf_change.specs.Order.{HasRow, place_of, block_at, ordered, unordered};
 
 /// The step takes items i of the runs 2j and 2j + 1, of s items each, to their sum and their difference, each

@@ -2,7 +2,7 @@ use Rattle.std.proofs.Common.{◌≡◌, ◌≢◌, ◌∙◌, sym, arith, rules
 use Rattle.std.specs.Prelude.{ℤ, pos, unsigned_abs, FitsSigned}
 use Rattle.std.specs.Int.{w32}
 use Rattle.std.proofs.lemmas.Int.{ints}
-use Rattle.spread_fold.specs.Items.{item}
+use Rattle.fixed_math.specs.Items.{item}
 use Rattle.spread_fold.proofs.MaskLemmas.{pulse_here, pulse_next, pulse_none}
 use Rattle.spread_fold.proofs.masks.is_coded.Goals as goal
 

@@ -2,7 +2,7 @@ use Rattle.std.proofs.Common.{◌≡◌, ℕ, suc, ◌<◌, length, ap, ◌∙�
 use Rattle.std.specs.Prelude.{ℤ, FitsSigned}
 use Rattle.std.specs.Int.{w64}
 use Rattle.std.proofs.lemmas.Int.{to_z-of_z}
-use Rattle.spread_fold.specs.Items.{item}
+use Rattle.fixed_math.specs.Items.{item}
 use Rattle.spread_fold.specs.Noise.{seed_after, folded_item}
 use Rattle.spread_fold.proofs.NoiseLemmas.{filled_start, filled_more, fold_end, fold_size}
 use Rattle.spread_fold.proofs.noise_items.fold.Goals as goal

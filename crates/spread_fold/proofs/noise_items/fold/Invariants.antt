@@ -1,5 +1,5 @@
 use Rattle.std.specs.Prelude.{suc}
-use Rattle.spread_fold.specs.Items.{item}
+use Rattle.fixed_math.specs.Items.{item}
 use Rattle.spread_fold.specs.Noise.{seed_after, folded_item}
 use Rattle.spread_fold.proofs.NoiseLemmas.{Filled}
 use Rattle.spread_fold.proofs.noise_items.fold.Given as goal

@@ -5,7 +5,7 @@ use Rattle.std.specs.Int.{w64}
 use Rattle.std.proofs.lemmas.Int.{to_z-of_z, fits_signed_from_abs, ints}
 use Rattle.fixed_math.specs.Rounding.{rounded}
 use Rattle.fixed_math.proofs.IntLemmas.{*ℤ-neg_ℤ}
-use Rattle.spread_fold.specs.Items.{item}
+use Rattle.fixed_math.specs.Items.{item}
 use Rattle.spread_fold.specs.Spreading.{clamped, turned_first, turned_second, pair_turned}
 use Rattle.spread_fold.proofs.spreading.turn_pair.Goals as goal
 

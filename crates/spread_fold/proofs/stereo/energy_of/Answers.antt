@@ -3,7 +3,7 @@ use Rattle.std.specs.Prelude.{ℤ, FitsSigned}
 use Rattle.std.specs.Int.{w64}
 use Rattle.std.proofs.lemmas.Int.{to_z-of_z}
 use Rattle.fixed_math.specs.Unit.{square}
-use Rattle.spread_fold.specs.Items.{item}
+use Rattle.fixed_math.specs.Items.{item}
 use Rattle.spread_fold.specs.Stereo.{channel_item}
 use Rattle.spread_fold.proofs.StereoLemmas.{summed_more, summed_end}
 use Rattle.spread_fold.proofs.stereo.energy_of.Goals as goal

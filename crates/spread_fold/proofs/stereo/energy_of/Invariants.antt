@@ -1,4 +1,4 @@
-use Rattle.spread_fold.specs.Items.{item}
+use Rattle.fixed_math.specs.Items.{item}
 use Rattle.spread_fold.specs.Stereo.{channel_item}
 use Rattle.spread_fold.proofs.StereoLemmas.{Summed}
 use Rattle.spread_fold.proofs.stereo.energy_of.Given as goal

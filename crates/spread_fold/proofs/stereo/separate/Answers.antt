@@ -2,7 +2,7 @@ use Rattle.std.proofs.Common.{◌≡◌, ℕ, ◌<◌, true, false, arith, rules
 use Rattle.std.specs.Prelude.{ℤ, FitsSigned}
 use Rattle.std.specs.Int.{w64}
 use Rattle.std.proofs.lemmas.Int.{to_z-of_z}
-use Rattle.spread_fold.specs.Items.{item}
+use Rattle.fixed_math.specs.Items.{item}
 use Rattle.spread_fold.specs.Stereo.{channel_item}
 use Rattle.spread_fold.proofs.StereoLemmas.{Separated, separated_more, channel_from}
 use Rattle.spread_fold.proofs.stereo.separate.Goals as goal

@@ -1,8 +1,9 @@
 use Rattle.std.proofs.Common.{◌≡◌, ℕ, ◌+◌, ◌*◌, ◌<◌, ap, ◌∙◌, arith, sym, List}
 use Rattle.std.specs.Prelude.{ℤ}
-use Rattle.tf_change.specs.Items.{item}
+use Rattle.fixed_math.specs.Items.{item}
 use Rattle.tf_change.specs.Order.{ordered}
-use Rattle.tf_change.proofs.ItemLemmas.{run_more, same_items}
+use Rattle.tf_change.proofs.ItemLemmas.{run_more}
+use Rattle.fixed_math.proofs.ItemLemmas.{same_items}
 use Rattle.tf_change.proofs.OrderLemmas.{item-ordered, length-ordered}
 use Rattle.tf_change.proofs.block_order.order.Goals as goal
 

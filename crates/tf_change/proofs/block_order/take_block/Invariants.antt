@@ -1,5 +1,5 @@
 use Rattle.std.proofs.Common.{◌+◌, ◌*◌}
-use Rattle.tf_change.specs.Items.{item}
+use Rattle.fixed_math.specs.Items.{item}
 use Rattle.tf_change.proofs.ItemLemmas.{RunPut}
 use Rattle.tf_change.proofs.block_order.take_block.Given as goal
 

@@ -1,5 +1,5 @@
 use Rattle.std.proofs.Common.{◌≡◌, ℕ, ◌*◌, ◌<◌}
-use Rattle.tf_change.specs.Items.{item}
+use Rattle.fixed_math.specs.Items.{item}
 use Rattle.tf_change.specs.Order.{unordered}
 use Rattle.tf_change.proofs.block_order.unorder.Given as goal
 

@@ -3,7 +3,7 @@ use Rattle.std.specs.Prelude.{ℤ, FitsSigned, ◌+ℤ◌, ◌-ℤ◌}
 use Rattle.std.specs.Int.{w64}
 use Rattle.std.proofs.lemmas.Int.{to_z-of_z, fits_signed_from_abs, ints}
 use Rattle.tf_change.specs.Haar.{scaled}
-use Rattle.tf_change.specs.Items.{item}
+use Rattle.fixed_math.specs.Items.{item}
 use Rattle.tf_change.proofs.HaarLemmas.{pair_low, pair_high}
 use Rattle.tf_change.proofs.haar_step.change_pair.Goals as goal
 

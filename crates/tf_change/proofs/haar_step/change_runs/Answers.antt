@@ -1,6 +1,6 @@
 use Rattle.std.proofs.Common.{◌≡◌, ◌<◌, ◌+◌, ◌^◌, arith, subst, sym, ℕ}
 use Rattle.std.specs.Prelude.{unsigned_abs}
-use Rattle.tf_change.specs.Items.{item}
+use Rattle.fixed_math.specs.Items.{item}
 use Rattle.tf_change.proofs.HaarLemmas.{runs_start, runs_more}
 use Rattle.tf_change.proofs.haar_step.change_runs.Goals as goal
 

@@ -2,7 +2,7 @@ use Rattle.std.proofs.Common.{◌≡◌, ◌≤◌, ◌<◌, ◌+◌, ◌*◌, �
 use Rattle.std.specs.Prelude.{unsigned_abs, All}
 use Rattle.tf_change.specs.Haar.{haar_of}
 use Rattle.tf_change.proofs.HaarLemmas.{pairs_start, pairs_more, pairs_within, pairs_end, haar_growth, runs_changed}
-use Rattle.tf_change.proofs.ItemLemmas.{item_below}
+use Rattle.fixed_math.proofs.ItemLemmas.{item_below}
 use Rattle.tf_change.proofs.haar_step.haar.Goals as goal
 
 pub loop-j-init : goal.loop-j-init

@@ -4,7 +4,7 @@ use Rattle.std.specs.Prelude.{ℤ, pos, unsigned_abs, slice_set, All}
 use Rattle.std.proofs.lemmas.Bool.{cases_lt, cases_eq}
 use Rattle.std.proofs.lemmas.List.{get_or-set_same, get_or-set_other, same_lists, get_or_default, get_or_past}
 use Rattle.std.proofs.lemmas.List.FromFn.{get_or-map-range_with_len, length-map-range_with_len}
-use Rattle.spread_fold.specs.Items.{item, listed}
+use Rattle.fixed_math.specs.Items.{item, listed}
 
 -- an item of a list that is given by its places
 pub item-listed : (n : ℕ) (f : ℕ → ℤ) (p : ℕ) → p < n → item (listed n f) p ≡ f p
