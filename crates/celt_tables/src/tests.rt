@@ -3,6 +3,7 @@ use crate::bands::{BAND_CHOICE_BITS, EDGES, WIDTH_LOGARITHMS};
 use crate::bits::{ALLOCATION, CAPS, cap};
 use crate::energies::{ENERGY_MODELS, MEANS};
 use crate::resolution::{CHANGES, tf_of};
+use crate::symbols::{SMALL, SPREAD, TAPSET, TRIM};
 use crate::window::WINDOW;
 use celt_base::kind::Kind;
 
@@ -44,6 +45,10 @@ fn sums(rt: HostRuntime) {
         "choices"
     );
     assert_eq!(rt; Weighted::none().row(&MEANS).sum, 16840, "means");
+    assert_eq!(rt; Weighted::none().row(&TAPSET).sum, 7, "tapset");
+    assert_eq!(rt; Weighted::none().row(&SMALL).sum, 7, "small");
+    assert_eq!(rt; Weighted::none().row(&SPREAD).sum, 82, "spread");
+    assert_eq!(rt; Weighted::none().row(&TRIM).sum, 768, "trim");
     let mut caps = Weighted::none();
     for row in &CAPS {
         caps = caps.row(row);

@@ -42,6 +42,13 @@ pub takes_row : (frame : List ℕ) (w r : Window) (q : Question) (a : ℤ) (row 
 takes_row frame w r q a row n from to total is e given lower upper all takes =
     takes_part frame w r q a (part_of row n) is e given (subst (λ part. TakesPart frame w part r) (row_part row n from to total lower upper all) takes)
 
+-- a part of as many shares
+pub takes_total : (frame : List ℕ) (w r : Window) (from to total other : ℕ) → total ≡ other
+    → TakesPart frame w (record { from = from; to = to; total = total }) r
+    → TakesPart frame w (record { from = from; to = to; total = other }) r
+takes_total frame w r from to total other e =
+    subst (λ n. TakesPart frame w (record { from = from; to = to; total = n }) r) e
+
 -- raw bits
 pub takes_raw : (frame : List ℕ) (w r : Window) (count number : ℕ) → number < 2 ^ count
     → ((i : Interval) → Shows frame w i → tail frame i.raw count ≡ number)
@@ -102,7 +109,7 @@ low_pace : (low n : ℕ) (p : Pace) → 1 ≤ low → after_pace p (InBits low (
 low_pace zero n p some = absurd (omega arith)
 low_pace (suc k) n p some = refl
 
-uniform_part : (limit top : ℕ) → top < (limit - 1) / 2 ^ low_bits limit + 1
+pub uniform_part : (limit top : ℕ) → top < (limit - 1) / 2 ^ low_bits limit + 1
     → (record { from = top; to = top + 1; total = (limit - 1) / 2 ^ low_bits limit + 1 }) ≡ part_of (uniform_row limit) top
 uniform_part limit top within =
     let row = uniform_row limit in
@@ -139,7 +146,7 @@ takes_wide frame w m r limit top raw number two some within below power e part v
     }
 
 -- a narrow one: the part alone
-narrow_steps : (low n : ℕ) → low ≡ 0 → low_steps low n ≡ []
+pub narrow_steps : (low n : ℕ) → low ≡ 0 → low_steps low n ≡ []
 narrow_steps low n e = ap (λ k. low_steps k n) e
 
 no_tail : (frame : List ℕ) (from count : ℕ) → count ≡ 0 → tail frame from count ≡ 0

@@ -6,6 +6,10 @@ unfoldable pub front : List ℕ → ℕ → ℕ
 front frame zero = 0
 front frame (suc count) = front frame count * 256 + slice_index frame count
 
+-- The number that the whole frame forms, most significant byte first.
+unfoldable pub number : List ℕ → ℕ
+number frame = front frame (length frame)
+
 -- The number that the first bits form, most significant first. A bit past the end is 0.
 unfoldable pub head : List ℕ → ℕ → ℕ
 head frame bits = front frame (bits / 8 + 1) / 2 ^ (8 - bits % 8)

@@ -25,6 +25,7 @@ ghost use Rattle.celt_base.specs.Questions.{
 ghost use Rattle.range_coder.specs.Windows.{TakesAnswer};
 
 use crate::logarithm::bit_length;
+use crate::shares::Shares;
 use crate::window::Window;
 use celt_base::question::{Question, TableId};
 use celt_tables::symbols::{SMALL, SPREAD, TAPSET, TRIM};
@@ -41,21 +42,20 @@ fn read_bit(window: Window, frame: &[u8], p: u32) -> (u32, Window)
     window.take_bit(frame, p)
 }
 
-/// The total of a table.
-fn total_of(table: TableId) -> u32
-    ensures value { result ≡ total_of table }
-    ensures some { 1 ≤ result }
-    ensures most { result ≤ 128 }
+/// The total of a table as a power of two.
+pub fn power_of(table: TableId) -> u32
+    ensures value { 2 ^ result ≡ total_of table }
+    ensures most { result ≤ 7 }
 {
     match table {
-        TableId::Tapset | TableId::Small => 4,
-        TableId::Spread => 32,
-        TableId::Trim => 128,
+        TableId::Tapset | TableId::Small => 2,
+        TableId::Spread => 5,
+        TableId::Trim => 7,
     }
 }
 
 /// The length of a place in a table.
-fn length_of(table: TableId, place: u32) -> u32
+pub fn length_of(table: TableId, place: u32) -> u32
     requires { place < answers_of table }
     ensures value { result ≡ (table_row table).len place }
     ensures most { result ≤ 128 }
@@ -108,14 +108,14 @@ fn read_table(window: Window, frame: &[u8], table: TableId) -> (u32, Window)
     ensures wide { 2 ^ 23 < result.1.width }
     ensures grown { result.1.bits ≤ window.bits + 40 }
 {
-    let total = total_of(table);
-    let place = place_in(table, total, window.value_of(total));
-    let after = window.take_part(frame, place.from, place.to, total);
+    let shares = Shares::binary(window.width, power_of(table));
+    let place = place_in(table, shares.total, window.value_of(shares));
+    let after = window.take_part(frame, place.from, place.to, shares);
     (place.answer, after)
 }
 
 /// How many low bits of a number below `limit` are raw.
-fn low_bits(limit: u32) -> u32
+pub fn low_bits(limit: u32) -> u32
     requires { 1 ≤ limit }
     ensures value { low_bits limit ≡ result }
     ensures top { (limit - 1) / 2 ^ result + 1 ≤ 2 ^ 8 }
@@ -135,9 +135,9 @@ fn read_uniform(window: Window, frame: &[u8], limit: u32) -> (u32, Window)
 {
     let last = limit - 1;
     let low = low_bits(limit);
-    let total = (last >> low) + 1;
-    let top = window.value_of(total);
-    let after = window.take_part(frame, top, top + 1, total);
+    let shares = Shares::of(window.width, (last >> low) + 1);
+    let top = window.value_of(shares);
+    let after = window.take_part(frame, top, top + 1, shares);
     if low == 0 {
         return (top, after);
     }
@@ -156,15 +156,15 @@ fn read_step(window: Window, frame: &[u8], most: u32) -> (u32, Window)
 {
     let half = most / 2;
     let lower = 3 * (half + 1);
-    let total = lower + half;
-    let value = window.value_of(total);
+    let shares = Shares::of(window.width, lower + half);
+    let value = window.value_of(shares);
     if value < lower {
         let answer = value / 3;
         let from = 3 * answer;
-        (answer, window.take_part(frame, from, from + 3, total))
+        (answer, window.take_part(frame, from, from + 3, shares))
     } else {
         let answer = value - lower + half + 1;
-        (answer, window.take_part(frame, value, value + 1, total))
+        (answer, window.take_part(frame, value, value + 1, shares))
     }
 }
 
@@ -194,20 +194,21 @@ fn read_triangle(window: Window, frame: &[u8], most: u32) -> (u32, Window)
 {
     let half = most / 2;
     let total = (half + 1) * (half + 1);
-    let value = window.value_of(total);
+    let shares = Shares::of(window.width, total);
+    let value = window.value_of(shares);
     if value < half * (half + 1) / 2 {
         let answer = root_of_sum(value);
         let from = answer * (answer + 1) / 2;
         (
             answer,
-            window.take_part(frame, from, from + answer + 1, total),
+            window.take_part(frame, from, from + answer + 1, shares),
         )
     } else {
         let left = root_of_sum(total - 1 - value);
         let to = total - left * (left + 1) / 2;
         (
             most - left,
-            window.take_part(frame, to - left - 1, to, total),
+            window.take_part(frame, to - left - 1, to, shares),
         )
     }
 }
@@ -226,13 +227,13 @@ fn read_raw(window: Window, frame: &[u8], count: u32) -> (u32, Window)
 
 /// The two parts of one size in a Laplace question, of minus the size and of the size itself, which follow each other.
 #[derive(Clone, Copy, Debug)]
-struct Sides {
+pub struct Sides {
     /// How many sizes are smaller, 0 left out.
-    smaller: u32,
+    pub smaller: u32,
     /// Where the part of minus the size begins.
-    from: u32,
+    pub from: u32,
     /// Both lengths are one above this.
-    spread: u32,
+    pub spread: u32,
 }
 
 /// The parts of the size that has the value, which is not in the part of 0.
@@ -263,14 +264,14 @@ fn sides_at(fs: u32, decay: u32, value: u32) -> Sides
 }
 
 /// The size that so many are smaller than, with a minus.
-fn minus(smaller: u32) -> i64
+pub fn minus(smaller: u32) -> i64
     ensures { result ≡ negsuc smaller }
 {
     -i64::from(smaller) - 1
 }
 
 /// The size that so many are smaller than.
-fn plus(smaller: u32) -> i64
+pub fn plus(smaller: u32) -> i64
     ensures { result ≡ pos (smaller + 1) }
 {
     i64::from(smaller) + 1
@@ -286,24 +287,24 @@ fn read_laplace(window: Window, frame: &[u8], fs: u32, decay: u32) -> (i64, Wind
     ensures wide { 2 ^ 23 < result.1.width }
     ensures grown { result.1.bits ≤ window.bits + 40 }
 {
-    let total = 32768;
-    let value = window.value_of(total);
+    let shares = Shares::binary(window.width, 15);
+    let value = window.value_of(shares);
     if value < fs {
-        return (0, window.take_part(frame, 0, fs, total));
+        return (0, window.take_part(frame, 0, fs, shares));
     }
     let sides = sides_at(fs, decay, value);
     let middle = sides.from + sides.spread + 1;
     if value < middle {
-        let to = middle.min(total);
+        let to = middle.min(shares.total);
         (
             minus(sides.smaller),
-            window.take_part(frame, sides.from, to, total),
+            window.take_part(frame, sides.from, to, shares),
         )
     } else {
-        let to = (middle + sides.spread + 1).min(total);
+        let to = (middle + sides.spread + 1).min(shares.total);
         (
             plus(sides.smaller),
-            window.take_part(frame, middle, to, total),
+            window.take_part(frame, middle, to, shares),
         )
     }
 }

@@ -118,10 +118,10 @@ fn rows_of_bits(rt: HostRuntime) {
 // A frame, its questions with their answers, and the bits, the eighths and the width that the reader tells after them. A
 // question is four numbers: its kind (0 Bit, 1 Table, 2 Uniform, 3 Laplace, 4 Step, 5 Triangle, 6 Raw), its own numbers, a
 // table being counted from 0, and the answer.
-type Reading = (&'static [u8], &'static [i64], u32, u32, u32);
+pub type Reading = (&'static [u8], &'static [i64], u32, u32, u32);
 
 // Whole frames of an encoder.
-const FRAMES: [Reading; 10] = [
+pub const FRAMES: [Reading; 10] = [
     (
         &[
             0x17, 0x98, 0x35, 0x8c, 0x11, 0x2d, 0xd7, 0xdb, 0x11, 0x31, 0xd7, 0x9f, 0xff, 0xea,
@@ -436,7 +436,7 @@ fn table_of(first: u32) -> TableId {
 }
 
 // The question of a kind with these numbers.
-fn question_of(kind: i64, first: u32, second: u32) -> Option<Question>
+pub fn question_of(kind: i64, first: u32, second: u32) -> Option<Question>
     ensures { IfSome result IsValid }
 {
     match kind {

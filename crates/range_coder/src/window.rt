@@ -1,6 +1,8 @@
 //! The window through which a reader sees its frame. The standard's decoder keeps the same state (RFC 6716, sections
 //! 4.1.1 and 4.1.2): how far the frame's number is below the last number of the interval, rather than the number.
-ghost use Rattle.std.specs.Prelude.{◌≡◌, ℕ, ◌+◌, ◌-◌, ◌*◌, ◌^◌, ◌<◌, ◌≤◌, List, length, min, slice_index};
+ghost use Rattle.std.specs.Prelude.{◌≡◌, ℕ, ◌+◌, ◌-◌, ◌*◌, ◌/◌, ◌^◌, ◌<◌, ◌≤◌, List, length, min, slice_index};
+
+use crate::shares::Shares;
 
 /// The state of a reader over its frame.
 #[derive(Clone, Copy, Debug)]
@@ -41,7 +43,7 @@ fn byte_from_end(frame: &[u8], place: usize) -> u8
 }
 
 impl Window {
-    ghost use Rattle.celt_base.specs.Intervals.{Part, Interval, InPart, InBits, whole, depth, narrowed, grown, after};
+    ghost use Rattle.celt_base.specs.Intervals.{Part, Interval, InPart, InBits, whole, narrowed, grown, after};
     ghost use Rattle.celt_base.specs.Paces.{narrowed_pace, grown_pace, after_pace};
     ghost use Rattle.celt_base.specs.Questions.{bit_row, part_of};
     ghost use Rattle.range_coder.specs.Reading.{Holds};
@@ -127,44 +129,33 @@ impl Window {
         self.grow(frame).grow(frame).grow(frame)
     }
 
-    /// How far a place of the total lies below the upper end of the interval.
-    fn depth_at(self, place: u32, total: u32) -> u32
-        requires { place ≤ total }
-        ensures value { result ≡ depth self.width total place }
-        ensures within { result ≤ self.width }
-    {
-        if place == 0 {
-            self.width
-        } else {
-            self.width / total * (total - place)
-        }
-    }
-
     /// The place of the total at which the frame's number lies.
-    pub fn value_of(self, total: u32) -> u32
-        requires some { 1 ≤ total }
-        requires most { total ≤ 2 ^ 15 }
+    pub fn value_of(self, shares: Shares) -> u32
+        requires unit { shares.unit ≡ self.width / shares.total }
+        requires some { 1 ≤ shares.total }
+        requires most { shares.total ≤ 2 ^ 15 }
         requires wide { 2 ^ 23 < self.width }
-        ensures value { result ≡ value_of self total }
-        ensures below { result < total }
+        ensures value { result ≡ value_of self shares.total }
+        ensures below { result < shares.total }
     {
-        total - (self.distance / (self.width / total) + 1).min(total)
+        shares.total - (self.distance / shares.unit + 1).min(shares.total)
     }
 
     /// The window after the part from `from` up to and without `to`, in which the frame's number lies.
-    pub fn take_part(self, frame: &[u8], from: u32, to: u32, total: u32) -> Window
-        requires above { from ≤ value_of self total }
-        requires below { value_of self total < to }
-        requires within { to ≤ total }
-        requires most { total ≤ 2 ^ 15 }
+    pub fn take_part(self, frame: &[u8], from: u32, to: u32, shares: Shares) -> Window
+        requires unit { shares.unit ≡ self.width / shares.total }
+        requires above { from ≤ value_of self shares.total }
+        requires below { value_of self shares.total < to }
+        requires within { to ≤ shares.total }
+        requires most { shares.total ≤ 2 ^ 15 }
         requires wide { 2 ^ 23 < self.width }
         requires bits { self.bits < 2 ^ 30 }
-        ensures takes { TakesPart frame.now self (record { from = from; to = to; total = total }) result }
+        ensures takes { TakesPart frame.now self (record { from = from; to = to; total = shares.total }) result }
         ensures wide { 2 ^ 23 < result.width }
         ensures grown { result.bits ≤ self.bits + 16 }
     {
-        let lower = self.depth_at(from, total);
-        let upper = self.depth_at(to, total);
+        let lower = shares.depth_at(self.width, from);
+        let upper = shares.depth_at(self.width, to);
         self.narrow(lower, upper).grow_wide(frame)
     }
 

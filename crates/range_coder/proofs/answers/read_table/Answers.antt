@@ -10,4 +10,4 @@ returns-clause-takes c =
     let n = place.result.answer in
     takes_row c.args.frame.now c.args.window c.take_part-after.result (Table c.args.table) (pos n) (table_row c.args.table) n _ _ _
     place.ensures.answer refl (λ i holds. (holds, tt)) place.ensures.from
-    (place.ensures.to ∙ ap (start (table_row c.args.table)) (let e : n + 1 ≡ suc n = omega arith in e)) c.total_of-total.ensures.value c.take_part-after.ensures.takes
+    (place.ensures.to ∙ ap (start (table_row c.args.table)) (let e : n + 1 ≡ suc n = omega arith in e)) (c.binary-shares.ensures.total ∙ c.power_of.ensures.value) c.take_part-after.ensures.takes
