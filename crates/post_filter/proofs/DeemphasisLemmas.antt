@@ -67,6 +67,11 @@ filtered_more memory xs ys n y v h e s f = record {
     next : (n : ℕ) → suc n ≡ n + 1
     next n = omega arith
 
+-- the same, as the code tells it
+pub filtered_step : (memory : ℤ) (xs ys zs : List ℤ) (n m : ℕ) (y v : ℤ) → n < length ys → m ≡ n + 1 → v ≡ item ys n +ℤ remainder y → unsigned_abs v < 2 ^ 33 → zs ≡ slice_set ys n v → Filtered memory xs ys n y → Filtered memory xs zs m v
+filtered_step memory xs ys zs n m y v h k e s l f =
+    subst (λ ws. Filtered memory xs ws m v) (sym l) (subst (λ j. Filtered memory xs (slice_set ys n v) j v) (sym k) (filtered_more memory xs ys n y v h e s f))
+
 pub filtered_end : (memory : ℤ) (xs ys : List ℤ) (n : ℕ) (y : ℤ) → n ≡ length xs → length ys ≡ length xs → Filtered memory xs ys n y → IsDeemphasis memory xs ys
 filtered_end memory xs ys n y e l f = record {
   count = l;

@@ -1,2 +1,5 @@
 pub mod DeemphasisLemmas
+pub mod EchoLemmas
+pub mod OutputLemmas
 pub mod SampleLemmas
+pub mod TapLemmas

@@ -1,7 +1,7 @@
 -- Samples: the parts of a gain's exponent, the products at 128 bits, and the places that are written.
 use Rattle.std.proofs.Common.{◌≡◌, ◌≢◌, ℕ, ◌+◌, ◌-◌, ◌*◌, ◌/◌, ◌%◌, ◌^◌, ◌<◌, ◌≤◌, sym, inl, inr, arith, refl, ap, ◌∙◌, List, length}
 use Rattle.std.specs.Prelude.{ℤ, pos, negsuc, ◌+ℤ◌, ◌-ℤ◌, ◌*ℤ◌, ◌≤ℤ◌, ◌<ℤ◌, unsigned_abs, slice_set, FitsSigned}
-use Rattle.std.specs.Int.{int_shr, w16, w64, w128, cast_signed as to_z}
+use Rattle.std.specs.Int.{int_shr, w16, w32, w64, w128, cast_signed as to_z}
 use Rattle.std.proofs.lemmas.Nat.{mul-le, one_shl}
 use Rattle.std.proofs.lemmas.Int.{ints, fits_signed_from_abs, to_z_pos}
 use Rattle.std.proofs.lemmas.Bool.{cases_eq}
@@ -10,7 +10,7 @@ use Rattle.std.proofs.Math.Nat.{pow-le-pow_right}
 use Rattle.fixed_math.specs.Powers.{mantissa}
 use Rattle.fixed_math.specs.Rounding.{rounded}
 use Rattle.fixed_math.proofs.PowerLemmas.{fraction-first, mantissa-fraction}
-use Rattle.fixed_math.proofs.RoundingLemmas.{shr_low, shr_high, shr_within, product_within, round_within}
+use Rattle.fixed_math.proofs.RoundingLemmas.{shr_low, shr_high, shr_within, shr_scaled, product_within, round_within}
 use Rattle.fixed_math.specs.Items.{item}
 use Rattle.post_filter.specs.Samples.{exponent, octave, place, amplified, saturated, sample_of, ArePut}
 
@@ -140,6 +140,7 @@ put_more gain xs start stride n old mid v s h e a = record {
 pub record PlainSteps (y : ℤ) : Type 0 where
   pub sum : FitsSigned w64 (y +ℤ pos 2048)
   pub shifted : FitsSigned w64 (rounded y 12)
+  pub word : FitsSigned w32 (rounded y 12)
 
 pub plain_steps : (y : ℤ) → unsigned_abs y < 2 ^ 33 → PlainSteps y
 plain_steps y h =
@@ -147,6 +148,7 @@ plain_steps y h =
     record {
       sum = fits_signed_from_abs w64 (y +ℤ pos 2048) (omega arith);
       shifted = fits_signed_from_abs w64 (rounded y 12) (omega (arith, shr_within (y +ℤ pos 2048) 12 (2 ^ 34) b));
+      word = fits_signed_from_abs w32 (rounded y 12) (omega (arith, shr_scaled (y +ℤ pos 2048) 12 (2 ^ 22) b));
     }
 
 -- and for a gain's exponent

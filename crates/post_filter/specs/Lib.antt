@@ -1,2 +1,3 @@
+pub mod Comb
 pub mod Deemphasis
 pub mod Samples

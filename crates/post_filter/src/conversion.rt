@@ -40,10 +40,12 @@ pub fn samples(exp: &Exp, x: &[i64], gain: i32, out: &mut [i16], start: usize, s
     requires room { (i : ℕ) → i < length x.now → start + stride * i < length out.old }
     ensures { ArePut gain x.now start stride (length x.now) out.old out.new }
 {
-    if gain == 0 {
-        put_plain(x, out, start, stride);
-    } else {
+    if gain != 0 {
         put_amplified(x, factor_of(exp, gain), out, start, stride);
+    } else if stride == 2 {
+        put_alternate(x, out, start);
+    } else {
+        put_plain(x, out, start, stride);
     }
 }
 
@@ -56,6 +58,17 @@ fn put_plain(x: &[i64], out: &mut [i16], start: usize, stride: usize)
 {
     for i in 0..x.len() {
         out[start + stride * i] = plain(x[i]);
+    }
+}
+
+// The same to every second place.
+fn put_alternate(x: &[i64], out: &mut [i16], start: usize)
+    requires sizes { All (λ v. unsigned_abs v < 2 ^ 33) x.now }
+    requires room { (i : ℕ) → i < length x.now → start + 2 * i < length out.old }
+    ensures { ArePut (pos 0) x.now start 2 (length x.now) out.old out.new }
+{
+    for i in 0..x.len() {
+        out[start + 2 * i] = plain(x[i]);
     }
 }
 
@@ -103,7 +116,7 @@ fn plain(y: i64) -> i16
     requires { unsigned_abs y < 2 ^ 33 }
     ensures { result ≡ sample_of (pos 0) y }
 {
-    narrowed((y + 2048) >> 12)
+    narrowed_word(((y + 2048) >> 12) as i32)
 }
 
 // The sample of `y` with a gain's factor.
@@ -129,6 +142,19 @@ fn product(y: i64, factor: Factor) -> i64
 
 // The nearest number of 16 bits.
 fn narrowed(z: i64) -> i16
+    ensures { result ≡ saturated z }
+{
+    if z < -32_768 {
+        -32_768
+    } else if z > 32_767 {
+        32_767
+    } else {
+        z as i16
+    }
+}
+
+// The same of 32 bits, of which a processor takes several at a time.
+fn narrowed_word(z: i32) -> i16
     ensures { result ≡ saturated z }
 {
     if z < -32_768 {

@@ -1,5 +1,6 @@
 //! The de-emphasis filter (RFC 6716, section 4.3.7.2), which undoes the encoder's pre-emphasis.
-ghost use Rattle.std.specs.Prelude.{◌≡◌, ℕ, ◌^◌, ◌<◌, ◌≤◌, ◌+ℤ◌, unsigned_abs, length, All};
+ghost use Rattle.std.specs.Prelude.{◌≡◌, ℕ, ◌^◌, ◌<◌, ◌≤◌, ◌+ℤ◌, unsigned_abs, slice_set, length, All};
+ghost use Rattle.fixed_math.specs.Items.{item};
 ghost use Rattle.post_filter.specs.Deemphasis.{before, remainder, IsDeemphasis};
 
 use fixed_math::mulr;
@@ -19,11 +20,31 @@ pub fn deemphasis(x: &mut [i64], memory: &mut i64)
     ensures memory_size { unsigned_abs memory.new < 2 ^ 33 }
 {
     let mut y = *memory;
-    for i in 0..x.len() {
-        y = output(x[i], y);
-        x[i] = y;
+    let fours = x.len() / 4;
+    for four in 0..fours {
+        y = put_output(x, 4 * four, y);
+        y = put_output(x, 4 * four + 1, y);
+        y = put_output(x, 4 * four + 2, y);
+        y = put_output(x, 4 * four + 3, y);
+    }
+    for i in 4 * fours..x.len() {
+        y = put_output(x, i, y);
     }
     *memory = y;
+}
+
+// Puts the output for the item at place `p` there, from the output before it, and answers it.
+fn put_output(x: &mut [i64], p: usize, y: i64) -> i64
+    requires inside { p < length x.old }
+    requires item { unsigned_abs (item x.old p) ≤ 2 ^ 30 }
+    requires before { unsigned_abs y < 2 ^ 33 }
+    ensures value { result ≡ item x.old p +ℤ remainder y }
+    ensures size { unsigned_abs result < 2 ^ 33 }
+    ensures list { x.new ≡ slice_set x.old p result }
+{
+    let put = output(x[p], y);
+    x[p] = put;
+    put
 }
 
 // The output for an item, from the output before it.

@@ -1,5 +1,7 @@
 pub mod MaskLemmas
 pub mod NoiseLemmas
 pub mod SpreadLemmas
+pub mod LimitLemmas
+pub mod CarryLemmas
 pub mod StereoLemmas
 pub mod LawLemmas

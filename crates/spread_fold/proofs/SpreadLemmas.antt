@@ -95,6 +95,13 @@ far_one : (c s : ℤ) (base n : ℕ) (xs : List ℤ) → turned_far 1 c s base n
 unfolding turned_far
 far_one c s base n xs = refl
 
+pub far_near : (t : ℕ) (c s : ℤ) (base n : ℕ) (xs : List ℤ) → t ≡ 1 → turned 1 c s base n xs ≡ turned_far t c s base n xs
+far_near t c s base n xs e = rw e (sym (far_one c s base n xs))
+
+pub near_passes : (c s : ℤ) (base n k l : ℕ) (xs : List ℤ) → k ≡ n - 1 → l ≡ n - 2 → turned_down 1 c s base l (turned_up 1 c s base k xs) ≡ turned 1 c s base n xs
+unfolding turned
+near_passes c s base n k l xs e f = ap (λ m. turned_down 1 c s base m (turned_up 1 c s base k xs)) f ∙ ap (λ m. turned_down 1 c s base (n - 2) (turned_up 1 c s base m xs)) e
+
 -- one run more
 pub run_forward : (t : ℕ) (c s : ℤ) (n b : ℕ) (old mid first new : List ℤ) (forward : Bool) → forward ≡ true → mid ≡ spread_runs forward t c s n b old → first ≡ turned_far 1 c (neg_ℤ s) (b * n) n mid → new ≡ turned_far t s (neg_ℤ c) (b * n) n first → new ≡ spread_runs forward t c s n (b + 1) old
 unfolding spread_runs spread_run

@@ -5,6 +5,7 @@
 
 mod laws;
 mod masks;
+mod neighbours;
 mod noise_items;
 mod spreading;
 mod stereo;

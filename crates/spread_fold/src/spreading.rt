@@ -4,13 +4,16 @@ ghost use Rattle.std.specs.Prelude.{◌≡◌, ℕ, ◌+◌, ◌-◌, ◌*◌, �
 ghost use Rattle.fixed_math.specs.Rounding.{rounded};
 ghost use Rattle.spread_fold.specs.Spreading.{clamped, turned_first, turned_second, pair_turned, turned_up, turned_down, turned, turned_far, spread_run, distance, quarter_share, spread_angle, spread_runs, spread_by};
 
+use crate::neighbours::{neighbours_down, neighbours_up};
 use fixed_math::{Trig, rounded_sum};
 
 /// The greatest size of an item after a turn: 8 in units of 2^-14.
 const LIMIT: i64 = 131_072;
 
 /// Spreads a shape of `k` pulses in `blocks` short blocks: `spread` is 0 for nothing up to 3 for the most. With
-/// `forward` the turns go the encoder's way, which takes the decoder's back.
+/// `forward` the turns go the encoder's way, which takes the decoder's back. Nothing is turned for spread 0, or where
+/// there are half as many pulses as items. Else each item is at most 2^17 in size afterwards, whatever came in, if a
+/// block has at least two.
 pub fn rotate(x: &mut [i64], trig: &Trig, blocks: u32, k: u32, spread: u32, forward: bool)
     requires some { 1 ≤ length x.old }
     requires count { length x.old ≤ 176 }
@@ -23,6 +26,7 @@ pub fn rotate(x: &mut [i64], trig: &Trig, blocks: u32, k: u32, spread: u32, forw
     requires items { All (λ v. unsigned_abs v < 2 ^ 20) x.old }
     ensures value { x.new ≡ spread_by blocks k spread forward x.old }
     ensures size { (m : ℕ) → 2 ^ 17 ≤ m → All (λ v. unsigned_abs v ≤ m) x.old → All (λ v. unsigned_abs v ≤ m) x.new }
+    ensures limit { 1 ≤ spread → 2 * k < length x.old → 2 * blocks ≤ length x.old → All (λ v. unsigned_abs v ≤ 2 ^ 17) x.new }
 {
     let count = x.len() as u32;
     if spread == 0 {
@@ -118,10 +122,25 @@ fn turn_all(x: &mut [i64], base: usize, n: usize, t: usize, c: i64, s: i64)
     requires items { All (λ v. unsigned_abs v < 2 ^ 20) x.old }
     ensures { x.new ≡ turned_far t c s base n x.old }
 {
-    if t > 0 {
+    if t == 1 {
+        turn_neighbours(x, base, n, c, s);
+    } else if t > 0 {
         turn_up(x, base, n.saturating_sub(t), t, c, s);
         turn_down(x, base, n.saturating_sub(2 * t), t, c, s);
     }
+}
+
+// The same with distance 1.
+fn turn_neighbours(x: &mut [i64], base: usize, n: usize, c: i64, s: i64)
+    requires count { length x.old ≤ 176 }
+    requires within { base + n ≤ length x.old }
+    requires cosine { unsigned_abs c ≤ 2 ^ 15 }
+    requires sine { unsigned_abs s ≤ 2 ^ 15 }
+    requires items { All (λ v. unsigned_abs v < 2 ^ 20) x.old }
+    ensures { x.new ≡ turned 1 c s base n x.old }
+{
+    neighbours_up(x, base, n.saturating_sub(1), c, s);
+    neighbours_down(x, base, n.saturating_sub(2), c, s);
 }
 
 // Turns the pairs that begin at the `k` places from `base` on, upwards.
@@ -170,8 +189,8 @@ fn turn_pair(x: &mut [i64], p: usize, t: usize, c: i64, s: i64)
     x[p + t] = turned_number(b, c, a, s);
 }
 
-// One number of a turned pair.
-fn turned_number(a: i64, c: i64, b: i64, s: i64) -> i64
+/// One number of a turned pair.
+pub fn turned_number(a: i64, c: i64, b: i64, s: i64) -> i64
     requires first { unsigned_abs a < 2 ^ 20 }
     requires second { unsigned_abs b < 2 ^ 20 }
     requires cosine { unsigned_abs c ≤ 2 ^ 15 }

@@ -11,6 +11,20 @@ const ONE: i64 = 32_768;
 /// The least energy of a channel, 6/10000 of that of a shape (Q28).
 const FAINT: u64 = 161_061;
 
+// A number of each channel.
+#[derive(Clone, Copy)]
+struct Sides {
+    left: i64,
+    right: i64,
+}
+
+// The energy of each channel.
+#[derive(Clone, Copy)]
+struct Energies {
+    left: u64,
+    right: u64,
+}
+
 /// Makes the left and the right channel of the middle `x` and the side `y`, where `mid` is the middle's weight
 /// (Q15): the difference and the sum, each brought to unit length. Where one of them has an energy below 161061,
 /// both become the middle.
@@ -24,11 +38,12 @@ pub fn merge(x: &mut [i64], y: &mut [i64], mid: i64)
     ensures left { x.new ≡ merged mid false x.old y.old }
     ensures right { y.new ≡ merged mid true x.old y.old }
 {
-    if energy_of(x, y, mid, false) < FAINT {
+    let energies = energies_of(x, y, mid);
+    if energies.left < FAINT {
         y.copy_from_slice(x);
         return;
     }
-    if energy_of(x, y, mid, true) < FAINT {
+    if energies.right < FAINT {
         y.copy_from_slice(x);
         return;
     }
@@ -37,21 +52,25 @@ pub fn merge(x: &mut [i64], y: &mut [i64], mid: i64)
     unit(y, ONE);
 }
 
-// The sum of the squares of a channel.
-fn energy_of(x: &[i64], y: &[i64], mid: i64, right: bool) -> u64
+// The sums of the squares of the channels.
+fn energies_of(x: &[i64], y: &[i64], mid: i64) -> Energies
     requires count { length x.now ≤ 176 }
     requires lengths { length y.now ≡ length x.now }
     requires mid_low { pos 0 ≤ℤ mid }
     requires mid_high { mid ≤ℤ pos 32767 }
     requires middle { All (λ v. unsigned_abs v < 2 ^ 20) x.now }
     requires side { All (λ v. unsigned_abs v < 2 ^ 20) y.now }
-    ensures { result ≡ energy (channel mid right x.now y.now) }
+    ensures left { result.left ≡ energy (channel mid false x.now y.now) }
+    ensures right { result.right ≡ energy (channel mid true x.now y.now) }
 {
-    let mut sum: u64 = 0;
+    let mut left: u64 = 0;
+    let mut right: u64 = 0;
     for i in 0..x.len() {
-        sum += square_of(channel_of(x[i], y[i], mid, right));
+        let sides = sides_of(x[i], y[i], mid);
+        left += square_of(sides.left);
+        right += square_of(sides.right);
     }
-    sum
+    Energies { left, right }
 }
 
 // Puts the left channel in the middle's place and the right in the side's.
@@ -66,23 +85,28 @@ fn separate(x: &mut [i64], y: &mut [i64], mid: i64)
     ensures right { y.new ≡ channel mid true x.old y.old }
 {
     for i in 0..x.len() {
-        let left = channel_of(x[i], y[i], mid, false);
-        y[i] = channel_of(x[i], y[i], mid, true);
-        x[i] = left;
+        let sides = sides_of(x[i], y[i], mid);
+        x[i] = sides.left;
+        y[i] = sides.right;
     }
 }
 
-// One item of a channel.
-fn channel_of(v: i64, w: i64, mid: i64, right: bool) -> i64
+// One item of each channel: the middle's product serves both.
+fn sides_of(v: i64, w: i64, mid: i64) -> Sides
     requires mid_low { pos 0 ≤ℤ mid }
     requires mid_high { mid ≤ℤ pos 32767 }
     requires middle { unsigned_abs v < 2 ^ 20 }
     requires side { unsigned_abs w < 2 ^ 20 }
-    ensures value { result ≡ channel_item mid right v w }
-    ensures size { unsigned_abs result ≤ 2 ^ 21 }
+    ensures left { result.left ≡ channel_item mid false v w }
+    ensures right { result.right ≡ channel_item mid true v w }
+    ensures left_size { unsigned_abs result.left ≤ 2 ^ 21 }
+    ensures right_size { unsigned_abs result.right ≤ 2 ^ 21 }
 {
     let middle = mulr(mid, v, 15);
-    if right { middle + w } else { middle - w }
+    Sides {
+        left: middle - w,
+        right: middle + w,
+    }
 }
 
 fn square_of(v: i64) -> u64

@@ -58,6 +58,29 @@ fn turns(rt: HostRuntime) {
     let mut x = [131_072i64, 131_072, 131_072, 131_072, -131_072, 131_072];
     rotate(&mut x, &trig, 1, 1, 3, true);
     assert_eq!(rt; x, [131_072, 97_176, 98_611, 14_096, -110_753, 131_072]);
+    // the greatest sizes that come in: as one run each item is brought within 131072, as six runs none is turned
+    let greatest = [
+        1_048_575i64,
+        -1_048_575,
+        1_048_575,
+        1_048_575,
+        -1_048_575,
+        1_048_575,
+    ];
+    let mut x = greatest;
+    rotate(&mut x, &trig, 1, 1, 3, false);
+    assert_eq!(rt; x, [131_072, -64_201, -131_072, 100_855, -97_176, 131_072]);
+    let mut x = greatest;
+    rotate(&mut x, &trig, 3, 1, 2, true);
+    assert_eq!(rt; x, [131_072, -131_072, 131_072, 131_072, -131_072, 131_072]);
+    let mut x = greatest;
+    rotate(&mut x, &trig, 6, 1, 2, true);
+    assert_eq!(rt;
+        x,
+        [
+            1_048_575, -1_048_575, 1_048_575, 1_048_575, -1_048_575, 1_048_575
+        ]
+    );
 }
 
 #[test]

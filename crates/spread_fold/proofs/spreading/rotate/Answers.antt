@@ -1,10 +1,11 @@
-use Rattle.std.proofs.Common.{◌≡◌, ℕ, ap, ◌∙◌, arith, rules, inl, inr, subst, sym, ◌/◌, ◌≤◌, length, List}
+use Rattle.std.proofs.Common.{◌≡◌, ℕ, ap, ◌∙◌, arith, rules, inl, inr, subst, sym, ◌/◌, ◌^◌, ◌≤◌, length, List}
 use Rattle.std.specs.Prelude.{ℤ, unsigned_abs, All, FitsSigned}
 use Rattle.std.specs.Int.{w64}
 use Rattle.std.proofs.lemmas.Int.{to_z-of_z}
 use Rattle.fixed_math.specs.Circle.{cosine, sine}
 use Rattle.spread_fold.specs.Spreading.{spread_runs, spread_by, distance, spread_angle}
 use Rattle.spread_fold.proofs.SpreadLemmas.{by_none, by_some, keeps_by}
+use Rattle.spread_fold.proofs.LimitLemmas.{by_limit}
 use Rattle.spread_fold.proofs.spreading.rotate.Goals as goal
 
 pub returns-then-spread-eq0-clause-value : goal.returns-then-spread-eq0-clause-value
@@ -48,3 +49,7 @@ returns-clause-size c = λ m g h.
     ∙ ap (λ z. spread_runs c.args.forward (distance (length xs) c.args.blocks) (cosine (spread_angle (length xs) c.args.k c.args.spread)) z (length xs / c.args.blocks) c.args.blocks xs) es
     ∙ by_some c.args.blocks c.args.k c.args.spread c.args.forward xs c.if-spread-eq0.false (omega arith) in
     subst (All (λ v. unsigned_abs v ≤ m)) (sym e) (keeps_by (λ v. unsigned_abs v ≤ m) (λ v q. omega arith) c.args.blocks c.args.k c.args.spread c.args.forward xs h)
+
+pub returns-clause-limit : goal.returns-clause-limit
+returns-clause-limit c = λ s p l.
+    subst (All (λ v. unsigned_abs v ≤ 2 ^ 17)) (sym (returns-clause-value c)) (by_limit c.args.blocks c.args.k c.args.spread c.args.forward c.args.x.now c.requires.blocks_low c.requires.runs s p l)

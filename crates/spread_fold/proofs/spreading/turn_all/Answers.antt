@@ -2,7 +2,7 @@ use Rattle.std.proofs.Common.{◌≡◌, ℕ, ap, ◌∙◌, ◌-◌, ◌*◌, a
 use Rattle.std.specs.Prelude.{unsigned_abs, All}
 use Rattle.std.proofs.lemmas.Int.{to_z-of_z}
 use Rattle.spread_fold.specs.Spreading.{turned_up, turned_down}
-use Rattle.spread_fold.proofs.SpreadLemmas.{keeps_up, far_some, far_none, small_below}
+use Rattle.spread_fold.proofs.SpreadLemmas.{keeps_up, far_some, far_none, far_near, small_below}
 use Rattle.spread_fold.proofs.spreading.turn_all.Goals as goal
 
 pub turn_down-requires-clause-items : goal.turn_down-requires-clause-items
@@ -29,3 +29,10 @@ returns-then-t-gt0 c =
 
 pub returns-else-t-gt0 : goal.returns-else-t-gt0
 returns-else-t-gt0 c = far_none c.args.t c.args.c c.args.s c.args.base c.args.n c.args.x.now (omega arith)
+
+pub returns-then-t-eq1 : goal.returns-then-t-eq1
+returns-then-t-eq1 c =
+    let fc = c.ranges.c in
+    let fs = c.ranges.s in
+    let u = simp to_z-of_z at c.turn_neighbours.ensures in
+    u ∙ far_near c.args.t c.args.c c.args.s c.args.base c.args.n c.args.x.now c.if-t-eq1.true

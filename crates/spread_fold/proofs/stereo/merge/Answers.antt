@@ -6,47 +6,47 @@ use Rattle.spread_fold.specs.Stereo.{channel}
 use Rattle.spread_fold.proofs.StereoLemmas.{merged_faint, merged_whole, channel_size}
 use Rattle.spread_fold.proofs.stereo.merge.Goals as goal
 
-pub returns-then-energy_of-lt-FAINT-clause-left : goal.returns-then-energy_of-lt-FAINT-clause-left
-returns-then-energy_of-lt-FAINT-clause-left c =
+pub returns-then-energies-lt-FAINT-clause-left : goal.returns-then-energies-lt-FAINT-clause-left
+returns-then-energies-lt-FAINT-clause-left c =
     let fm = c.ranges.mid in
     let xs : List ℤ = c.args.x.now in
     let ys : List ℤ = c.args.y.now in
-    let a : c.energy_of.result ≡ energy (channel c.args.mid false xs ys) = simp to_z-of_z at c.energy_of.ensures in
+    let a : c.energies_of-energies.result.left ≡ energy (channel c.args.mid false xs ys) = simp to_z-of_z at c.energies_of-energies.ensures.left in
     merged_faint c.args.mid false xs ys (inl (omega arith))
 
-pub returns-then-energy_of-lt-FAINT-clause-right : goal.returns-then-energy_of-lt-FAINT-clause-right
-returns-then-energy_of-lt-FAINT-clause-right c =
+pub returns-then-energies-lt-FAINT-clause-right : goal.returns-then-energies-lt-FAINT-clause-right
+returns-then-energies-lt-FAINT-clause-right c =
     let fm = c.ranges.mid in
     let xs : List ℤ = c.args.x.now in
     let ys : List ℤ = c.args.y.now in
-    let a : c.energy_of.result ≡ energy (channel c.args.mid false xs ys) = simp to_z-of_z at c.energy_of.ensures in
+    let a : c.energies_of-energies.result.left ≡ energy (channel c.args.mid false xs ys) = simp to_z-of_z at c.energies_of-energies.ensures.left in
     c.copy_from_slice.ensures.after ∙ merged_faint c.args.mid true xs ys (inl (omega arith))
 
-pub returns-then-energy_of-lt-FAINT-2-clause-left : goal.returns-then-energy_of-lt-FAINT-2-clause-left
-returns-then-energy_of-lt-FAINT-2-clause-left c =
+pub returns-then-energies-lt-FAINT-2-clause-left : goal.returns-then-energies-lt-FAINT-2-clause-left
+returns-then-energies-lt-FAINT-2-clause-left c =
     let fm = c.ranges.mid in
     let xs : List ℤ = c.args.x.now in
     let ys : List ℤ = c.args.y.now in
-    let a : c.energy_of.result ≡ energy (channel c.args.mid false xs ys) = simp to_z-of_z at c.energy_of.ensures in
-    let b : c.energy_of-2.result ≡ energy (channel c.args.mid true xs ys) = simp to_z-of_z at c.energy_of-2.ensures in
+    let a : c.energies_of-energies.result.left ≡ energy (channel c.args.mid false xs ys) = simp to_z-of_z at c.energies_of-energies.ensures.left in
+    let b : c.energies_of-energies.result.right ≡ energy (channel c.args.mid true xs ys) = simp to_z-of_z at c.energies_of-energies.ensures.right in
     merged_faint c.args.mid false xs ys (inr (omega arith))
 
-pub returns-then-energy_of-lt-FAINT-2-clause-right : goal.returns-then-energy_of-lt-FAINT-2-clause-right
-returns-then-energy_of-lt-FAINT-2-clause-right c =
+pub returns-then-energies-lt-FAINT-2-clause-right : goal.returns-then-energies-lt-FAINT-2-clause-right
+returns-then-energies-lt-FAINT-2-clause-right c =
     let fm = c.ranges.mid in
     let xs : List ℤ = c.args.x.now in
     let ys : List ℤ = c.args.y.now in
-    let a : c.energy_of.result ≡ energy (channel c.args.mid false xs ys) = simp to_z-of_z at c.energy_of.ensures in
-    let b : c.energy_of-2.result ≡ energy (channel c.args.mid true xs ys) = simp to_z-of_z at c.energy_of-2.ensures in
-    c.copy_from_slice-then-energy_of-lt-FAINT-2.ensures.after ∙ merged_faint c.args.mid true xs ys (inr (omega arith))
+    let a : c.energies_of-energies.result.left ≡ energy (channel c.args.mid false xs ys) = simp to_z-of_z at c.energies_of-energies.ensures.left in
+    let b : c.energies_of-energies.result.right ≡ energy (channel c.args.mid true xs ys) = simp to_z-of_z at c.energies_of-energies.ensures.right in
+    c.copy_from_slice-then-energies-lt-FAINT-2.ensures.after ∙ merged_faint c.args.mid true xs ys (inr (omega arith))
 
 pub returns-clause-left : goal.returns-clause-left
 returns-clause-left c =
     let fm = c.ranges.mid in
     let xs : List ℤ = c.args.x.now in
     let ys : List ℤ = c.args.y.now in
-    let a : c.energy_of.result ≡ energy (channel c.args.mid false xs ys) = simp to_z-of_z at c.energy_of.ensures in
-    let b : c.energy_of-2.result ≡ energy (channel c.args.mid true xs ys) = simp to_z-of_z at c.energy_of-2.ensures in
+    let a : c.energies_of-energies.result.left ≡ energy (channel c.args.mid false xs ys) = simp to_z-of_z at c.energies_of-energies.ensures.left in
+    let b : c.energies_of-energies.result.right ≡ energy (channel c.args.mid true xs ys) = simp to_z-of_z at c.energies_of-energies.ensures.right in
     let l : c.separate.new.x ≡ channel c.args.mid false xs ys = simp to_z-of_z at c.separate.ensures.left in
     c.unit.ensures.value ∙ ap (unit_of (pos 32768)) l ∙ merged_whole c.args.mid false xs ys (omega arith) (omega arith)
 
@@ -55,8 +55,8 @@ returns-clause-right c =
     let fm = c.ranges.mid in
     let xs : List ℤ = c.args.x.now in
     let ys : List ℤ = c.args.y.now in
-    let a : c.energy_of.result ≡ energy (channel c.args.mid false xs ys) = simp to_z-of_z at c.energy_of.ensures in
-    let b : c.energy_of-2.result ≡ energy (channel c.args.mid true xs ys) = simp to_z-of_z at c.energy_of-2.ensures in
+    let a : c.energies_of-energies.result.left ≡ energy (channel c.args.mid false xs ys) = simp to_z-of_z at c.energies_of-energies.ensures.left in
+    let b : c.energies_of-energies.result.right ≡ energy (channel c.args.mid true xs ys) = simp to_z-of_z at c.energies_of-energies.ensures.right in
     let l : c.separate.new.y ≡ channel c.args.mid true xs ys = simp to_z-of_z at c.separate.ensures.right in
     c.unit-2.ensures.value ∙ ap (unit_of (pos 32768)) l ∙ merged_whole c.args.mid true xs ys (omega arith) (omega arith)
 

@@ -1,8 +1,0 @@
-use Rattle.fixed_math.specs.Items.{item}
-use Rattle.spread_fold.specs.Stereo.{channel_item}
-use Rattle.spread_fold.proofs.StereoLemmas.{Summed}
-use Rattle.spread_fold.proofs.stereo.energy_of.Given as goal
-
--- the first squares are added
-abbrev pub invariant-loop-i : goal.invariant-loop-i
-invariant-loop-i l = Summed l.i l.sum (λ j. channel_item l.mid l.right (item l.x j) (item l.y j))
