@@ -1,0 +1,11 @@
+pub mod AmountLemmas
+pub mod CountLemmas
+pub mod Fronts
+pub mod SearchLemmas
+pub mod PlanLemmas
+pub mod SplitLemmas
+pub mod SkipSteps
+pub mod TotalLemmas
+pub mod StereoSteps
+pub mod AllocationLemmas
+pub mod LawLemmas

@@ -1,0 +1,15 @@
+use Rattle.std.proofs.Common.{◌∙◌, ◌-◌, ap}
+use Rattle.bit_allocation.specs.Plans.{reserves_of, choice_reserve, dual_reserve}
+use Rattle.bit_allocation.proofs.PlanLemmas.{reserves_with}
+use Rattle.bit_allocation.proofs.planning.reserves.Goals as goal
+
+pub returns : goal.returns
+unfolding reserves_of
+returns c =
+    let t = c.args.total in
+    let k = c.args.kind in
+    let s = c.skip_reserve-skip.result in
+    let h = c.choice_reserve-choice.result in
+    ap (reserves_with t s h) c.dual_reserve-dual.ensures.value
+    ∙ ap (λ x. reserves_with t s x (dual_reserve x (t - s - x))) c.choice_reserve-choice.ensures.value
+    ∙ ap (λ x. reserves_with t x (choice_reserve k (t - x)) (dual_reserve (choice_reserve k (t - x)) (t - x - choice_reserve k (t - x)))) c.skip_reserve-skip.ensures.value
