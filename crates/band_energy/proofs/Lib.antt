@@ -1,0 +1,7 @@
+pub mod CoarseSteps
+pub mod EnergyTables
+pub mod LastRounds
+pub mod RawSteps
+pub mod ValueSteps
+pub mod ValueRows
+pub mod EnergyLaws

@@ -1,0 +1,3 @@
+pub mod EnergyRows
+pub mod EnergyScripts
+pub mod EnergyValues
