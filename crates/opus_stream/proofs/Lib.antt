@@ -1,0 +1,16 @@
+pub mod Beginning
+pub mod Carried
+pub mod Grants
+pub mod Headers
+pub mod Hearing
+pub mod Joining
+pub mod Lasting
+pub mod Placing
+pub mod Prefixes
+pub mod Reading
+pub mod Recovered
+pub mod Regrouped
+pub mod Sizes
+pub mod Spanning
+pub mod Spelled
+pub mod Tallying

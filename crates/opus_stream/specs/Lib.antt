@@ -1,0 +1,16 @@
+pub mod Acceptance
+pub mod Accepted
+pub mod Audio
+pub mod Carrying
+pub mod Granules
+pub mod Packets
+pub mod Pages
+pub mod Progressing
+pub mod Readers
+pub mod Rooms
+pub mod Settled
+pub mod Spans
+pub mod Steps
+pub mod Tallies
+pub mod Tests
+pub mod Truths

@@ -1,0 +1,27 @@
+-- The samples that pages give, said of all of them.
+use Rattle.std.specs.Prelude.{ℕ, ◌+◌, ◌-◌, List, [], ◌∷◌, ◌++◌, sum_by}
+use Rattle.ogg_pages.specs.Fields.{Page}
+use Rattle.opus_stream.specs.declared.answers.Span.{Span}
+use Rattle.opus_stream.specs.Granules.{samples_on}
+use Rattle.opus_stream.specs.Acceptance.{audio_in, last_span}
+
+abbrev pub span_len : Span → ℕ
+span_len s = s.to - s.from
+
+-- what is written of each page, behind the pages before
+unfoldable pub spans_after : List Page → List Page → List Span
+spans_after before [] = []
+spans_after before (page ∷ pages) = last_span (before ++ page ∷ []) ∷ spans_after (before ++ page ∷ []) pages
+
+-- how many samples are written in all
+unfoldable pub written_in : List Page → ℕ
+written_in pages = sum_by span_len (spans_after [] pages)
+
+-- a span of a page, counted among the samples of all packets, of which so many stand before the page
+abbrev pub placed : ℕ → Span → Span
+placed before s = record { from = before + s.from; to = before + s.to }
+
+-- where what is written of each page stands among the samples of all packets
+unfoldable pub places_after : List Page → List Page → List Span
+places_after before [] = []
+places_after before (page ∷ pages) = placed (samples_on (audio_in before)) (last_span (before ++ page ∷ [])) ∷ places_after (before ++ page ∷ []) pages

@@ -1,0 +1,69 @@
+//! Laws of the definitions alone: what whole streams of pages are (RFC 3533, RFC 7845). No body does anything.
+ghost use Rattle.std.specs.Prelude.{◌≡◌, ℕ, ◌≤◌, ◌-◌, ◌++◌, List, [], length, take, None, Some, false};
+ghost use Rattle.std.specs.List.{All, AllPairs, flat_map};
+ghost use Rattle.celt_base.specs.declared.status.Fault.{Fault};
+ghost use Rattle.ogg_pages.specs.Fields.{Page};
+ghost use Rattle.ogg_pages.specs.Spelling.{AreBytes, IsPage, spelling};
+ghost use Rattle.opus_stream.specs.declared.answers.Accept.{Accept};
+ghost use Rattle.opus_stream.specs.Granules.{given_on};
+ghost use Rattle.opus_stream.specs.Acceptance.{accepted, fault_of, is_end_name, audio_in, audio_packets, head_in, preskip_of};
+ghost use Rattle.opus_stream.specs.Spans.{places_after, written_in};
+ghost use Rattle.opus_stream.specs.Carrying.{Carries, AreSound, IsSpelled};
+ghost use Rattle.opus_stream.specs.Readers.{Reader, StandsFor, IsAnswer, packets_of, is_ended_in};
+
+/// A fault that is not one of the end stays whatever bytes follow, and no further page is accepted.
+pub fn law_fault_stays()
+    ensures fault { (bytes more : List ℕ) (fault : Fault) → fault_of bytes ≡ Some fault → is_end_name fault.name ≡ false
+        → fault_of (bytes ++ more) ≡ Some fault }
+    ensures pages { (bytes more : List ℕ) (fault : Fault) → fault_of bytes ≡ Some fault → is_end_name fault.name ≡ false
+        → accepted (bytes ++ more) ≡ accepted bytes }
+{}
+
+/// The accepted pages of a list of bytes are the first of those of every longer list.
+pub fn law_pages_go_on()
+    ensures { (bytes more : List ℕ) → take (length (accepted bytes)) (accepted (bytes ++ more)) ≡ accepted bytes }
+{}
+
+/// What is written of the pages stands in order among the samples of all packets, and apart. It is all that is
+/// given but the pre-skip.
+pub fn law_spans()
+    ensures apart { (bytes : List ℕ) → AllPairs (λ s t. s.to ≤ t.from) (places_after [] (accepted bytes)) }
+    ensures total { (bytes : List ℕ) → written_in (accepted bytes)
+        ≡ given_on (audio_in (accepted bytes)) - preskip_of (head_in (accepted bytes)) }
+{}
+
+/// Two readers that were fed the same bytes, in whatever pieces, and gave as many pages answer alike, and show the
+/// same page.
+pub fn law_readers_alike()
+    ensures answer { (first second : Reader) (bytes : List ℕ) (given : ℕ) (a b : Accept) →
+        StandsFor first bytes given → StandsFor second bytes given → IsAnswer first a → IsAnswer second b → a ≡ b }
+    ensures page { (first second : Reader) (bytes : List ℕ) (given : ℕ) →
+        StandsFor first bytes given → StandsFor second bytes given → first.page ≡ second.page }
+    ensures packets { (first second : Reader) (bytes : List ℕ) (given : ℕ) →
+        StandsFor first bytes given → StandsFor second bytes given → packets_of first ≡ packets_of second }
+    ensures written { (first second : Reader) (bytes : List ℕ) (given : ℕ) →
+        StandsFor first bytes given → StandsFor second bytes given → first.given.written ≡ second.given.written }
+    ensures head { (first second : Reader) (bytes : List ℕ) (given : ℕ) →
+        StandsFor first bytes given → StandsFor second bytes given → first.progress.head ≡ second.progress.head }
+    ensures ended { (first second : Reader) (bytes : List ℕ) (given : ℕ) →
+        StandsFor first bytes given → StandsFor second bytes given → is_ended_in first ≡ is_ended_in second }
+{}
+
+/// However headers and sound audio packets are cut into pages, with the flags, numbers and granule positions that are
+/// asked, the joined spellings of the pages are read without a fault as just these packets.
+pub fn law_streams_are_read()
+    ensures fault { (pages : List Page) (head tags : List ℕ) (packets : List (List ℕ)) → All IsPage pages →
+        Carries pages head tags packets → AreSound head tags packets → fault_of (flat_map spelling pages) ≡ None }
+    ensures pages { (pages : List Page) (head tags : List ℕ) (packets : List (List ℕ)) → All IsPage pages →
+        Carries pages head tags packets → AreSound head tags packets → accepted (flat_map spelling pages) ≡ pages }
+    ensures packets { (pages : List Page) (head tags : List ℕ) (packets : List (List ℕ)) → All IsPage pages →
+        Carries pages head tags packets → AreSound head tags packets → audio_packets (accepted (flat_map spelling pages)) ≡ packets }
+{}
+
+/// Bytes without a fault are the joined spellings of just one list of pages: the accepted ones, which carry headers
+/// and the packets that are given, all sound.
+pub fn law_streams_are_spelled()
+    ensures spelled { (bytes : List ℕ) → AreBytes bytes → fault_of bytes ≡ None →
+        IsSpelled bytes (accepted bytes) (audio_packets (accepted bytes)) }
+    ensures only { (ps qs : List Page) → All IsPage ps → All IsPage qs → flat_map spelling ps ≡ flat_map spelling qs → ps ≡ qs }
+{}
