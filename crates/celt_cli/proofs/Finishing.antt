@@ -11,10 +11,8 @@ use Rattle.celt_base.specs.declared.status.Status.TheVariants as statuses
 use Rattle.celt_base.specs.Outside.{AppendsFront}
 use Rattle.celt_base.proofs.Causes.{longer_front}
 use Rattle.celt_cli.specs.declared.reading.ReadError.{ReadError}
-use Rattle.celt_cli.specs.Decoding.{full, fault_of}
 use Rattle.celt_cli.specs.Silences.{IsSilence}
-use Rattle.celt_cli.specs.Outcomes.{is_end_name, cut_status_by, cut_status, status_by, wanted, Answers, Writes, WritesFirst}
-use Rattle.celt_cli.proofs.Prefixes.{full-append, stays}
+use Rattle.celt_cli.specs.Outcomes.{Meaning, is_end_name, cut_status_by, cut_status, ended_status, status_by, written, wanted, Answers, Writes, AddsAll}
 
 -- as many zero bytes
 zeros_silent : (n : ℕ) (xs : List ℕ) → n ≡ 1920 → xs ≡ replicate n 0 → IsSilence xs
@@ -26,12 +24,17 @@ pub silence_made : (r : Result (Vec ℕ Global) ReadError) → IfOk r (λ v. v.i
 silence_made (Ok v) h = zeros_silent 1920 v.items refl h
 silence_made (Err e) h = tt
 
--- a front of the samples of a front is one of all
-pub front_longer : (xs : List ℕ) (limit : ℕ) (old new : Option (List ℕ)) → AppendsFront old new (full (take limit xs)) → AppendsFront old new (full xs)
-front_longer xs limit old new h =
-    let a = full-append (take limit xs) (drop limit xs) in
-    let same : full xs ≡ full (take limit xs) ++ a.0 = ap full (sym (take-append-drop limit xs)) ∙ a.1 in
-    subst (AppendsFront old new) (sym same) (longer_front old new (full (take limit xs)) a.0 h)
+-- what is written of a front begins what is written of all; a fault that no later byte mends fixes it
+pub record Continues (m : Meaning) : Type 0 where
+  pub front : (bytes more : List ℕ) → (rest : List ℕ) × (m.full (bytes ++ more) ≡ m.running bytes ++ rest)
+  pub stopped : (bytes more : List ℕ) (fault : Fault) → m.fault_of bytes ≡ Some fault → is_end_name fault.name ≡ false → m.full (bytes ++ more) ≡ m.running bytes
+
+-- a front of what is written of a front is one of all
+front_longer : (m : Meaning) → Continues m → (xs : List ℕ) (limit : ℕ) (old new : Option (List ℕ)) → AppendsFront old new (m.running (take limit xs)) → AppendsFront old new (m.full xs)
+front_longer m goes xs limit old new h =
+    let a = goes.front (take limit xs) (drop limit xs) in
+    let same : m.full xs ≡ m.running (take limit xs) ++ a.0 = ap m.full (sym (take-append-drop limit xs)) ∙ a.1 in
+    subst (AppendsFront old new) (sym same) (longer_front old new (m.running (take limit xs)) a.0 h)
 
 -- the whole input is read where it is no longer than the limit
 whole : (limit : ℕ) (xs : List ℕ) → nat_lt limit (length xs) ≡ false → take limit xs ≡ xs
@@ -56,23 +59,42 @@ refused_long (Some fault) f h = by_name (is_end_name fault.name) refl where
       let same : fault ≡ f = cc in
       (ap Some same, ap (λ (x : Fault). is_end_name x.name) (sym same) ∙ e)
 
-full_refused : (limit : ℕ) (xs : List ℕ) (f : Fault) (long : Bool) → nat_lt limit (length xs) ≡ long → status_by long (fault_of (take limit xs)) ≡ statuses.Refused f → full (take limit xs) ≡ full xs
-full_refused limit xs f false e h = ap full (whole limit xs e)
-full_refused limit xs f true e h =
-    let r = refused_long (fault_of (take limit xs)) f h in
-    sym (stays (take limit xs) (drop limit xs) f r.0 r.1).samples ∙ ap full (take-append-drop limit xs)
+written_refused : (m : Meaning) → Continues m → (limit : ℕ) (xs : List ℕ) (f : Fault) (long : Bool) → nat_lt limit (length xs) ≡ long → status_by long (m.fault_of (take limit xs)) ≡ statuses.Refused f
+    → written m long (take limit xs) ≡ m.full xs
+written_refused m goes limit xs f false e h = ap m.full (whole limit xs e)
+written_refused m goes limit xs f true e h =
+    let r = refused_long (m.fault_of (take limit xs)) f h in
+    sym (goes.stopped (take limit xs) (drop limit xs) f r.0 r.1) ∙ ap m.full (take-append-drop limit xs)
+
+written_done : (m : Meaning) (limit : ℕ) (xs : List ℕ) (long : Bool) → nat_lt limit (length xs) ≡ long → status_by long (m.fault_of (take limit xs)) ≡ statuses.Done
+    → written m long (take limit xs) ≡ m.full xs
+written_done m limit xs false e h = ap m.full (whole limit xs e)
+written_done m limit xs true e h = let wrong : true ≡ false = done_not_long true (m.fault_of (take limit xs)) h in cc
+
+written_long : (m : Meaning) (limit : ℕ) (xs : List ℕ) (long : Bool) → status_by long (m.fault_of (take limit xs)) ≡ statuses.InputTooLong
+    → written m long (take limit xs) ≡ m.running (take limit xs)
+written_long m limit xs true h = refl
+written_long m limit xs false h = by_fault (m.fault_of (take limit xs)) h where
+  by_fault : (fault : Option Fault) → ended_status fault ≡ statuses.InputTooLong → written m false (take limit xs) ≡ m.running (take limit xs)
+  by_fault None e = cc
+  by_fault (Some fault) e = cc
+
+written_front : (m : Meaning) → Continues m → (limit : ℕ) (xs : List ℕ) (old new : Option (List ℕ)) (long : Bool) → nat_lt limit (length xs) ≡ long
+    → AppendsFront old new (written m long (take limit xs)) → AppendsFront old new (m.full xs)
+written_front m goes limit xs old new false e h = subst (λ l. AppendsFront old new (m.full l)) (whole limit xs e) h
+written_front m goes limit xs old new true e h = front_longer m goes xs limit old new h
 
 -- the outcome of the first bytes is that of the input
-pub finish : (limit : ℕ) (xs : List ℕ) (old new : Option (List ℕ)) (status : Status) → Answers (wanted limit xs) status → WritesFirst (take limit xs) old new status
-    → Writes limit xs old new status
+pub finish : (m : Meaning) → Continues m → (limit : ℕ) (xs : List ℕ) (old new : Option (List ℕ)) (status : Status) → Answers (wanted m limit xs) status
+    → AddsAll (written m (nat_lt limit (length xs)) (take limit xs)) old new status → Writes m limit xs old new status
 unfolding wanted
-finish limit xs old new statuses.Done a w = subst (Appends old new) (ap full (whole limit xs (done_not_long (nat_lt limit (length xs)) (fault_of (take limit xs)) a))) w
-finish limit xs old new (statuses.Refused f) a w = subst (Appends old new) (full_refused limit xs f (nat_lt limit (length xs)) refl a) w
-finish limit xs old new statuses.InputTooLong a w = w
-finish limit xs old new statuses.Usage a w = absurd a
-finish limit xs old new statuses.ReadFault a w = front_longer xs limit old new w
-finish limit xs old new statuses.WriteFault a w = front_longer xs limit old new w
-finish limit xs old new statuses.NoMemory a w = front_longer xs limit old new w
+finish m goes limit xs old new statuses.Done a w = subst (Appends old new) (written_done m limit xs (nat_lt limit (length xs)) refl a) w
+finish m goes limit xs old new (statuses.Refused f) a w = subst (Appends old new) (written_refused m goes limit xs f (nat_lt limit (length xs)) refl a) w
+finish m goes limit xs old new statuses.InputTooLong a w = subst (Appends old new) (written_long m limit xs (nat_lt limit (length xs)) a) w
+finish m goes limit xs old new statuses.Usage a w = absurd a
+finish m goes limit xs old new statuses.ReadFault a w = written_front m goes limit xs old new (nat_lt limit (length xs)) refl w
+finish m goes limit xs old new statuses.WriteFault a w = written_front m goes limit xs old new (nat_lt limit (length xs)) refl w
+finish m goes limit xs old new statuses.NoMemory a w = written_front m goes limit xs old new (nat_lt limit (length xs)) refl w
 
 -- ---- what was read of the input
 
@@ -104,27 +126,31 @@ if_some : (o : Option (List ℕ)) (P Q : List ℕ → Type 0) → ((xs : List �
 if_some None P Q f p = tt
 if_some (Some xs) P Q f p = f xs p
 
-pub record FirstDecoded (limit : ℕ) (got : List ℕ) (long : Bool) (first : List ℕ) : Type 0 where
+-- the first bytes, whether the input goes on behind them, and what is written of them
+pub record IsFirst (m : Meaning) (limit : ℕ) (got : List ℕ) (long : Bool) (first out : List ℕ) : Type 0 where
   pub first_is : first ≡ take limit got
   pub long_is : long ≡ nat_lt limit (length got)
+  pub out_is : out ≡ written m long first
 
-answers_at : (limit : ℕ) (xs got first : List ℕ) (long : Bool) (status : Status) → FirstDecoded limit got long first → Answers (status_by long (fault_of first)) status → Begins limit xs got
-    → Answers (wanted limit xs) status
+answers_at : (m : Meaning) (limit : ℕ) (xs got first out : List ℕ) (long : Bool) (status : Status) → IsFirst m limit got long first out → Answers (status_by long (m.fault_of first)) status
+    → Begins limit xs got → Answers (wanted m limit xs) status
 unfolding wanted
-answers_at limit xs got first long status f a b =
-    let one = subst (λ l. Answers (status_by long (fault_of l)) status) (f.first_is ∙ sym b.first) a in
-    subst (λ t. Answers (status_by t (fault_of (take limit xs))) status) (f.long_is ∙ sym b.long) one
+answers_at m limit xs got first out long status f a b =
+    let one = subst (λ l. Answers (status_by long (m.fault_of l)) status) (f.first_is ∙ sym b.first) a in
+    subst (λ t. Answers (status_by t (m.fault_of (take limit xs))) status) (f.long_is ∙ sym b.long) one
 
-pub answers_input : (limit : ℕ) (old new : Option (List ℕ)) (got first : List ℕ) (long : Bool) (status : Status)
-    → Consumes old new got × (length got ≤ limit → IsAtEnd new) → FirstDecoded limit got long first → Answers (status_by long (fault_of first)) status
-    → IfSome old (λ xs. Answers (wanted limit xs) status)
-answers_input limit old new got first long status r f a =
-    if_some old (λ xs. Begins limit xs got) (λ xs. Answers (wanted limit xs) status) (λ xs b. answers_at limit xs got first long status f a b) (begins_input limit old new got r.0 r.1)
+pub answers_input : (m : Meaning) (limit : ℕ) (old new : Option (List ℕ)) (got first out : List ℕ) (long : Bool) (status : Status)
+    → Consumes old new got × (length got ≤ limit → IsAtEnd new) → IsFirst m limit got long first out → Answers (status_by long (m.fault_of first)) status
+    → IfSome old (λ xs. Answers (wanted m limit xs) status)
+answers_input m limit old new got first out long status r f a =
+    if_some old (λ xs. Begins limit xs got) (λ xs. Answers (wanted m limit xs) status) (λ xs b. answers_at m limit xs got first out long status f a b) (begins_input limit old new got r.0 r.1)
 
-pub writes_input : (limit : ℕ) (old new : Option (List ℕ)) (got first : List ℕ) (long : Bool) (status : Status) (before now : Option (List ℕ))
-    → Consumes old new got × (length got ≤ limit → IsAtEnd new) → FirstDecoded limit got long first → Answers (status_by long (fault_of first)) status → WritesFirst first before now status
-    → IfSome old (λ xs. Writes limit xs before now status)
-writes_input limit old new got first long status before now r f a w =
-    if_some old (λ xs. Begins limit xs got) (λ xs. Writes limit xs before now status)
-    (λ xs b. finish limit xs before now status (answers_at limit xs got first long status f a b) (subst (λ l. WritesFirst l before now status) (f.first_is ∙ sym b.first) w))
+pub writes_input : (m : Meaning) → Continues m → (limit : ℕ) (old new : Option (List ℕ)) (got first out : List ℕ) (long : Bool) (status : Status) (before now : Option (List ℕ))
+    → Consumes old new got × (length got ≤ limit → IsAtEnd new) → IsFirst m limit got long first out → Answers (status_by long (m.fault_of first)) status → AddsAll out before now status
+    → IfSome old (λ xs. Writes m limit xs before now status)
+writes_input m goes limit old new got first out long status before now r f a w =
+    if_some old (λ xs. Begins limit xs got) (λ xs. Writes m limit xs before now status)
+    (λ xs b. finish m goes limit xs before now status (answers_at m limit xs got first out long status f a b)
+    (subst (λ l. AddsAll l before now status)
+    (f.out_is ∙ ap (written m long) (f.first_is ∙ sym b.first) ∙ ap (λ t. written m t (take limit xs)) (f.long_is ∙ sym b.long)) w))
     (begins_input limit old new got r.0 r.1)

@@ -4,3 +4,9 @@ pub mod Prefixes
 pub mod Read
 pub mod Samples
 pub mod Walking
+pub mod Zeros
+pub mod Encoded
+pub mod SilentFrame
+pub mod Digits
+pub mod Pages
+pub mod WaveLemmas

@@ -11,7 +11,8 @@ use Rattle.ogg_pages.proofs.Streams.{GoesOn, goes_on}
 use Rattle.std.specs.Ordering.{int_eq}
 use Rattle.celt_cli.specs.Form.{has_silence, follows, samples_in, samples_of, is_ended, is_built}
 use Rattle.celt_cli.specs.Decoding.{accepted_after, accepted, samples_on, full, fault_at, end_fault, fault_behind, fault_of}
-use Rattle.celt_cli.specs.Outcomes.{is_end_name}
+use Rattle.celt_cli.specs.Outcomes.{is_end_name, decoding, written}
+use Rattle.celt_cli.proofs.Finishing.{Continues}
 use Rattle.celt_cli.proofs.Walking.{samples_ahead, built_first, not_built_first}
 
 -- the pages that are accepted go on behind more pages
@@ -177,3 +178,13 @@ stays bytes more fault h n =
 
 pub front_of_more : (bytes more : List ℕ) → take (length (full bytes)) (full (bytes ++ more)) ≡ full bytes
 front_of_more bytes more = let r = full-append bytes more in ap (take (length (full bytes))) r.1 ∙ take-append_seam (full bytes) r.0
+
+pub decoding_goes_on : Continues decoding
+decoding_goes_on = record {
+  front = full-append;
+  stopped = λ bytes more fault h n. (stays bytes more fault h n).samples;
+}
+
+pub decoded_output : (long : Bool) (first : List ℕ) → full first ≡ written decoding long first
+decoded_output true first = refl
+decoded_output false first = refl

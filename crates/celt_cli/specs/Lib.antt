@@ -1,4 +1,5 @@
 pub mod Decoding
+pub mod Encoding
 pub mod Form
 pub mod Notes
 pub mod Outcomes
@@ -6,4 +7,5 @@ pub mod Progressing
 pub mod Reads
 pub mod Runs
 pub mod Silences
+pub mod Waves
 pub mod Words

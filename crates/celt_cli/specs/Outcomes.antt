@@ -7,7 +7,17 @@ use Rattle.celt_base.specs.declared.status.FaultName.TheVariants as names
 use Rattle.celt_base.specs.declared.status.Status.{Status}
 use Rattle.celt_base.specs.declared.status.Status.TheVariants as statuses
 use Rattle.celt_base.specs.Outside.{AppendsFront}
-use Rattle.celt_cli.specs.Decoding.{full, running, fault_of}
+use Rattle.celt_cli.specs.Decoding as decoded
+
+-- What a command makes of the bytes of an input: what is written of all of it, what is written before its end is known, and
+-- its earliest fault.
+pub record Meaning : Type 0 where
+  pub full : List ℕ → List ℕ
+  pub running : List ℕ → List ℕ
+  pub fault_of : List ℕ → Option Fault
+
+abbrev pub decoding : Meaning
+decoding = record { full = decoded.full; running = decoded.running; fault_of = decoded.fault_of }
 
 -- The faults that more bytes could mend.
 abbrev pub is_end_name : FaultName → Bool
@@ -34,8 +44,8 @@ status_by true fault = cut_status fault
 status_by false fault = ended_status fault
 
 -- The first `limit` bytes are read, and whether there is one more is found out.
-unfoldable pub wanted : ℕ → List ℕ → Status
-wanted limit bytes = status_by (nat_lt limit (length bytes)) (fault_of (take limit bytes))
+unfoldable pub wanted : Meaning → ℕ → List ℕ → Status
+wanted m limit bytes = status_by (nat_lt limit (length bytes)) (m.fault_of (take limit bytes))
 
 -- The status is the wanted one, or a failure of the outside.
 abbrev pub Answers : Status → Status → Type 0
@@ -48,31 +58,36 @@ Answers want statuses.WriteFault = ⊤
 Answers want statuses.NoMemory = ⊤
 
 -- What was added to the output.
-abbrev pub Writes : ℕ → List ℕ → Option (List ℕ) → Option (List ℕ) → Status → Type 0
-Writes limit bytes old new statuses.Done = Appends old new (full bytes)
-Writes limit bytes old new (statuses.Refused fault) = Appends old new (full bytes)
-Writes limit bytes old new statuses.InputTooLong = Appends old new (running (take limit bytes))
-Writes limit bytes old new statuses.Usage = AppendsFront old new (full bytes)
-Writes limit bytes old new statuses.ReadFault = AppendsFront old new (full bytes)
-Writes limit bytes old new statuses.WriteFault = AppendsFront old new (full bytes)
-Writes limit bytes old new statuses.NoMemory = AppendsFront old new (full bytes)
+abbrev pub Writes : Meaning → ℕ → List ℕ → Option (List ℕ) → Option (List ℕ) → Status → Type 0
+Writes m limit bytes old new statuses.Done = Appends old new (m.full bytes)
+Writes m limit bytes old new (statuses.Refused fault) = Appends old new (m.full bytes)
+Writes m limit bytes old new statuses.InputTooLong = Appends old new (m.running (take limit bytes))
+Writes m limit bytes old new statuses.Usage = AppendsFront old new (m.full bytes)
+Writes m limit bytes old new statuses.ReadFault = AppendsFront old new (m.full bytes)
+Writes m limit bytes old new statuses.WriteFault = AppendsFront old new (m.full bytes)
+Writes m limit bytes old new statuses.NoMemory = AppendsFront old new (m.full bytes)
 
 -- The pages of the bytes were decoded to their end, with this fault.
 pub record Ended (bytes : List ℕ) (old now : Option (List ℕ)) (fault : Option Fault) : Type 0 where
-  pub fault_is : fault ≡ fault_of bytes
-  pub added : Appends old now (full bytes)
+  pub fault_is : fault ≡ decoded.fault_of bytes
+  pub added : Appends old now (decoded.full bytes)
 
 -- Where the output failed, a front of the samples was added.
 abbrev pub Decodes : {E : Type 0} → List ℕ → Option (List ℕ) → Option (List ℕ) → Result (Option Fault) E → Type 0
 Decodes bytes old now (Ok fault) = Ended bytes old now fault
-Decodes bytes old now (Err failure) = AppendsFront old now (full bytes)
+Decodes bytes old now (Err failure) = AppendsFront old now (decoded.full bytes)
 
--- What was added to the output, said of the first bytes alone.
-abbrev pub WritesFirst : List ℕ → Option (List ℕ) → Option (List ℕ) → Status → Type 0
-WritesFirst first old new statuses.Done = Appends old new (full first)
-WritesFirst first old new (statuses.Refused fault) = Appends old new (full first)
-WritesFirst first old new statuses.InputTooLong = Appends old new (full first)
-WritesFirst first old new statuses.Usage = AppendsFront old new (full first)
-WritesFirst first old new statuses.ReadFault = AppendsFront old new (full first)
-WritesFirst first old new statuses.WriteFault = AppendsFront old new (full first)
-WritesFirst first old new statuses.NoMemory = AppendsFront old new (full first)
+-- What is written of the first bytes of an input, which goes on behind them or does not.
+abbrev pub written : Meaning → Bool → List ℕ → List ℕ
+written m true first = m.running first
+written m false first = m.full first
+
+-- All of it was added to the output, or a front where something failed.
+abbrev pub AddsAll : List ℕ → Option (List ℕ) → Option (List ℕ) → Status → Type 0
+AddsAll bytes old new statuses.Done = Appends old new bytes
+AddsAll bytes old new (statuses.Refused fault) = Appends old new bytes
+AddsAll bytes old new statuses.InputTooLong = Appends old new bytes
+AddsAll bytes old new statuses.Usage = AppendsFront old new bytes
+AddsAll bytes old new statuses.ReadFault = AppendsFront old new bytes
+AddsAll bytes old new statuses.WriteFault = AppendsFront old new bytes
+AddsAll bytes old new statuses.NoMemory = AppendsFront old new bytes

@@ -4,28 +4,28 @@ use Rattle.std.specs.Io.KnownBytes.{Appends, Keeps}
 use Rattle.celt_base.specs.declared.status.Status.{Status}
 use Rattle.celt_base.specs.declared.status.Status.TheVariants as statuses
 use Rattle.celt_base.specs.Outside.{Rose, AppendsFront}
-use Rattle.celt_cli.specs.declared.notes.Place.TheVariants.{Page}
+use Rattle.celt_cli.specs.declared.notes.Place.{Place}
 use Rattle.celt_cli.specs.Notes.{usage, refusal_of}
 
--- the line that a status of `decode` gives
-abbrev pub note_of : Status → List ℕ
-note_of statuses.Done = []
-note_of (statuses.Refused fault) = refusal_of Page fault
-note_of statuses.Usage = usage
-note_of statuses.ReadFault = []
-note_of statuses.WriteFault = []
-note_of statuses.NoMemory = []
-note_of statuses.InputTooLong = []
+-- the line that a status gives, given what the place of a fault counts where a form is not built
+abbrev pub note_of : Place → Status → List ℕ
+note_of unbuilt statuses.Done = []
+note_of unbuilt (statuses.Refused fault) = refusal_of unbuilt fault
+note_of unbuilt statuses.Usage = usage
+note_of unbuilt statuses.ReadFault = []
+note_of unbuilt statuses.WriteFault = []
+note_of unbuilt statuses.NoMemory = []
+note_of unbuilt statuses.InputTooLong = []
 
 -- the notes gained the line of the status; where writing failed, a front of the wanted status's line
-abbrev pub Says : Status → Option (List ℕ) → Option (List ℕ) → Status → Type 0
-Says want old new statuses.Done = Keeps old new
-Says want old new (statuses.Refused fault) = Appends old new (note_of (statuses.Refused fault))
-Says want old new statuses.Usage = Appends old new (note_of statuses.Usage)
-Says want old new statuses.ReadFault = Keeps old new
-Says want old new statuses.WriteFault = AppendsFront old new (note_of want)
-Says want old new statuses.NoMemory = Keeps old new
-Says want old new statuses.InputTooLong = Keeps old new
+abbrev pub Says : Place → Status → Option (List ℕ) → Option (List ℕ) → Status → Type 0
+Says unbuilt want old new statuses.Done = Keeps old new
+Says unbuilt want old new (statuses.Refused fault) = Appends old new (note_of unbuilt (statuses.Refused fault))
+Says unbuilt want old new statuses.Usage = Appends old new (note_of unbuilt statuses.Usage)
+Says unbuilt want old new statuses.ReadFault = Keeps old new
+Says unbuilt want old new statuses.WriteFault = AppendsFront old new (note_of unbuilt want)
+Says unbuilt want old new statuses.NoMemory = Keeps old new
+Says unbuilt want old new statuses.InputTooLong = Keeps old new
 
 -- the status where the words are not accepted
 abbrev pub AnswersUsage : Status → Type 0

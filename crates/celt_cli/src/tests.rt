@@ -73,21 +73,21 @@ const SEGMENTS_HEADER: [u8; 27] = [
 
 /// What a run gave.
 #[derive(Drop)]
-struct Outcome {
-    status: Status,
-    output: Vec<u8>,
-    notes: Vec<u8>,
+pub struct Outcome {
+    pub status: Status,
+    pub output: Vec<u8>,
+    pub notes: Vec<u8>,
 }
 
 /// The calls that fail: of the source, of the output, of the notes.
 #[derive(Clone, Copy)]
-struct Failing {
-    read: Option<u64>,
-    write: Option<u64>,
-    note: Option<u64>,
+pub struct Failing {
+    pub read: Option<u64>,
+    pub write: Option<u64>,
+    pub note: Option<u64>,
 }
 
-const NONE_FAILS: Failing = Failing {
+pub const NONE_FAILS: Failing = Failing {
     read: None,
     write: None,
     note: None,
@@ -102,7 +102,7 @@ fn named(alloc: Global, call: Option<u64>) -> Result<Vec<u64>, AllocError> {
 }
 
 /// The bytes in pieces of this size, which is not 0.
-fn pieces(alloc: Global, bytes: &[u8], size: usize) -> Result<Vec<Vec<u8>>, AllocError> {
+pub fn pieces(alloc: Global, bytes: &[u8], size: usize) -> Result<Vec<Vec<u8>>, AllocError> {
     let mut pieces = Vec::new(alloc);
     for piece in bytes.chunks(size.max(1)) {
         pieces.push(Vec::from_slice(alloc, piece)?)?;
@@ -121,7 +121,7 @@ fn stream(alloc: Global, pages: &[&[u8]]) -> Result<Vec<u8>, AllocError> {
 }
 
 /// One run of the program over the bytes in pieces.
-fn attempt(
+pub fn attempt(
     rt: &impl Threads,
     alloc: Global,
     words: &[&str],
@@ -199,7 +199,7 @@ fn expect(
     Ok(())
 }
 
-fn refused(name: FaultName, at: u64) -> Status {
+pub fn refused(name: FaultName, at: u64) -> Status {
     Status::Refused(Fault { name, at })
 }
 
@@ -318,7 +318,7 @@ fn words(rt: HostRuntime) -> Result<(), AllocError> {
         &["decode", "--raw", "--raw"],
         &["decode", "x"],
         &["Decode", "--raw"],
-        &["encode", "--bytes", "80"],
+        &["Encode", "--bytes", "80"],
     ];
     for words in rows {
         let got = attempt(&rt, alloc, words, &whole, 7, NONE_FAILS)?;
