@@ -1,0 +1,11 @@
+pub mod DigitLemmas
+pub mod FifthLemmas
+pub mod ForwardLemmas
+pub mod FourierLemmas
+pub mod InverseLemmas
+pub mod JoinLemmas
+pub mod MdctLemmas
+pub mod NumberLemmas
+pub mod PlanLemmas
+pub mod RowLemmas
+pub mod TestLemmas

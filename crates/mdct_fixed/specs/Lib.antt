@@ -1,0 +1,6 @@
+pub mod Digits
+pub mod Joins
+pub mod Mdct
+pub mod Numbers
+pub mod Rows
+pub mod Transform
