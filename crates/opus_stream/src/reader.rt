@@ -235,6 +235,8 @@ impl StreamReader {
         requires { is_ended_in self.old ≡ true }
         ensures again { (bytes : List ℕ) (given : ℕ) → StandsFor self.old bytes given →
             StandsFor self.new (drop (size_of (given_pages bytes given)) bytes) 0 }
+        ensures fed { bytes_fed self.new ≤ bytes_fed self.old }
+        ensures settled { bytes_fed self.new ≡ 0 → self.new.is_settled ≡ true }
         ensures free { free_room self.new ≡ free_room self.old }
     {
         let held = self.pages.held();
