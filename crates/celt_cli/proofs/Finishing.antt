@@ -11,16 +11,16 @@ use Rattle.celt_base.specs.declared.status.Status.TheVariants as statuses
 use Rattle.celt_base.specs.Outside.{AppendsFront}
 use Rattle.celt_base.proofs.Causes.{longer_front}
 use Rattle.celt_cli.specs.declared.reading.ReadError.{ReadError}
-use Rattle.celt_cli.specs.Silences.{IsSilence}
+use Rattle.celt_cli.specs.Silences.{AreZeros}
 use Rattle.celt_cli.specs.Outcomes.{Meaning, is_end_name, cut_status_by, cut_status, ended_status, status_by, written, wanted, Answers, Writes, AddsAll}
 
 -- as many zero bytes
-zeros_silent : (n : ℕ) (xs : List ℕ) → n ≡ 1920 → xs ≡ replicate n 0 → IsSilence xs
+zeros_silent : (n : ℕ) (xs : List ℕ) → n ≡ 1920 → xs ≡ replicate n 0 → AreZeros xs
 zeros_silent n xs e h =
     let len : length xs ≡ n = ap length h ∙ length-replicate n 0 in
     record { long = omega arith; zero_bytes = λ count few. ap (take count) h ∙ take-replicate count n 0 (omega arith) }
 
-pub silence_made : (r : Result (Vec ℕ Global) ReadError) → IfOk r (λ v. v.items ≡ replicate 1920 0) → IfOk r (λ v. IsSilence v.items)
+pub silence_made : (r : Result (Vec ℕ Global) ReadError) → IfOk r (λ v. v.items ≡ replicate 1920 0) → IfOk r (λ v. AreZeros v.items)
 silence_made (Ok v) h = zeros_silent 1920 v.items refl h
 silence_made (Err e) h = tt
 

@@ -4,7 +4,7 @@ use Rattle.ogg_pages.specs.Fields.{Page}
 use Rattle.celt_cli.specs.Decoding.{silence_of}
 
 -- enough zero bytes for the longest frame
-pub record IsSilence (zeros : List ℕ) : Type 0 where
+pub record AreZeros (zeros : List ℕ) : Type 0 where
   pub long : 1920 ≤ length zeros
   pub zero_bytes : (count : ℕ) → count ≤ 1920 → take count zeros ≡ replicate count 0
 

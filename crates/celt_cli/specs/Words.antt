@@ -1,5 +1,5 @@
 -- The words that are accepted, and what they ask for.
-use Rattle.std.specs.Prelude.{ℕ, ⊤, ◌≤◌, ◌+◌, ◌-◌, ◌*◌, Bool, ◌&&◌, List, [], ◌∷◌, length, Option, None, Some, String, string_bytes, codes, nat_eq, nat_le, is_some, if◌then◌else◌}
+use Rattle.std.specs.Prelude.{ℕ, ⊤, ◌≤◌, ◌+◌, ◌-◌, ◌*◌, Bool, ◌&&◌, List, [], ◌∷◌, length, Option, None, Some, String, string_bytes, codes, nat_eq, nat_le, if◌then◌else◌}
 use Rattle.std.specs.Cmp.Lexicographic.{pointwise}
 use Rattle.std.specs.declared.alloc.Global.{Global}
 use Rattle.celt_cli.specs.declared.settings.FrameSize.TheVariants.{Samples960}
@@ -46,9 +46,6 @@ command_of (command ∷ option ∷ value ∷ more ∷ words) = None
 abbrev pub IsCommand : Command → Type 0
 IsCommand Decode = ⊤
 IsCommand (Encode settings) = (2 ≤ settings.bytes) × (settings.bytes ≤ 1275)
-
-abbrev pub accepts : List (String Global) → Bool
-accepts words = is_some (command_of words)
 
 -- what a command makes of its input
 abbrev pub meaning_of : Command → Meaning

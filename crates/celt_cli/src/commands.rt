@@ -4,7 +4,7 @@ ghost use Rattle.celt_base.specs.Outside.{Rose};
 ghost use Rattle.celt_cli.specs.Decoding.{full, fault_of};
 ghost use Rattle.celt_cli.specs.Waves.{fault_of as wave_fault};
 ghost use Rattle.celt_cli.specs.Encoding.{encoding};
-ghost use Rattle.celt_cli.specs.Silences.{IsSilence};
+ghost use Rattle.celt_cli.specs.Silences.{AreZeros};
 ghost use Rattle.celt_cli.specs.Outcomes.{status_by, cut_status, decoding, written, wanted, Answers, Writes, AddsAll};
 
 use crate::decoding::decode_pages;
@@ -26,7 +26,7 @@ pub enum Form {
 
 /// The bytes of a frame's silence, for the longest frame.
 fn silence(alloc: Global) -> Result<Vec<u8>, ReadError>
-    ensures { IfOk result (λ v. IsSilence v.items) }
+    ensures { IfOk result (λ v. AreZeros v.items) }
 {
     zero_bytes(alloc, 1920)
 }
@@ -78,7 +78,7 @@ fn status_of(is_long: bool, fault: Option<Fault>) -> Status
 
 /// Decodes the first bytes of an input, which goes on or not.
 fn decode_first<K: Sink>(first: &[u8], is_long: bool, zeros: &[u8], output: &mut K) -> Status
-    requires zeros { IsSilence zeros.now }
+    requires zeros { AreZeros zeros.now }
     requires len { length first.now ≤ 2 ^ 40 }
     ensures status { Answers (status_by is_long (fault_of first.now)) result }
     ensures output { AddsAll (full first.now) (K.held output.old) (K.held output.new) result }

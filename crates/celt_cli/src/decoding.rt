@@ -4,7 +4,7 @@ ghost use Rattle.celt_base.specs.Outside.{HasCause, WritesAll};
 ghost use Rattle.ogg_pages.specs.Stream.{Sound, Cut, Broken};
 ghost use Rattle.ogg_pages.specs.Views.{page_in};
 ghost use Rattle.celt_cli.specs.Decoding.{silence_of, name_of, fault_at, end_fault};
-ghost use Rattle.celt_cli.specs.Silences.{IsSilence, samples_behind};
+ghost use Rattle.celt_cli.specs.Silences.{AreZeros, samples_behind};
 ghost use Rattle.celt_cli.specs.Outcomes.{Decodes};
 
 use crate::progress::Progress;
@@ -67,7 +67,7 @@ fn write_samples<K: Sink>(
     zeros: &[u8],
     output: &mut K,
 ) -> Result<(), Failed>
-    requires { IsSilence zeros.now }
+    requires { AreZeros zeros.now }
     ensures bytes { WritesAll (K.held output.old) (K.held output.new) result (samples_behind progress.now.pages (page_in page.now)) }
     ensures cause { HasCause (K.faults output.old) (K.faults output.new) result }
 {
@@ -84,7 +84,7 @@ pub fn decode_pages<K: Sink>(
     zeros: &[u8],
     output: &mut K,
 ) -> Result<Option<Fault>, Failed>
-    requires zeros { IsSilence zeros.now }
+    requires zeros { AreZeros zeros.now }
     requires len { length bytes.now ≤ 2 ^ 40 }
     ensures decodes { Decodes bytes.now (K.held output.old) (K.held output.new) result }
     ensures cause { HasCause (K.faults output.old) (K.faults output.new) result }

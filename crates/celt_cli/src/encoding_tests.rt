@@ -397,7 +397,7 @@ fn limits(rt: HostRuntime) -> Result<(), AllocError> {
         assert_eq!(rt; got.0, want, "limit {limit}");
         assert_eq!(rt; got.1.as_slice(), output, "limit {limit}");
     }
-    let broken = streamed(&rt, alloc, FIVE, 4, b"RIFXXXXX", 3)?;
+    let broken = streamed(&rt, alloc, FIVE, 4, b"RIFYYYYY", 3)?;
     assert_eq!(rt; broken.0, refused(FaultName::BadRiff, 0));
     Ok(())
 }

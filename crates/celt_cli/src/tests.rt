@@ -304,7 +304,7 @@ fn limits(rt: HostRuntime) -> Result<(), AllocError> {
     assert_eq!(rt; streamed(&rt, alloc, 125, &whole, 7)?, long);
     // A fault that no later byte mends comes before the limit.
     let broken = (refused(FaultName::BadCapture, 0), 0);
-    assert_eq!(rt; streamed(&rt, alloc, 4, b"OggXXXXX", 3)?, broken);
+    assert_eq!(rt; streamed(&rt, alloc, 4, b"OggYYYYY", 3)?, broken);
     Ok(())
 }
 
