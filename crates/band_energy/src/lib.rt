@@ -5,6 +5,8 @@
 mod coarse_walk;
 mod energy;
 #[cfg(test)]
+mod extreme_rows;
+#[cfg(test)]
 mod extreme_tests;
 mod fine_walk;
 mod last_walk;
