@@ -34,6 +34,19 @@ pub fn page_at(bytes: &[u8]) -> Step<'_>
     }
 }
 
+// Leaves out the first bytes. Where there are none to leave out, nothing is moved.
+fn drop_front(bytes: &mut Vec<u8>, count: usize)
+    requires { count ≤ length bytes.old.items }
+    ensures bytes { bytes.new.items ≡ drop count bytes.old.items }
+    ensures capacity { vec_capacity bytes.new ≡ vec_capacity bytes.old }
+{
+    if count == 0 {
+        return;
+    }
+    bytes.copy_within(count.., 0);
+    bytes.truncate(bytes.len() - count);
+}
+
 /// A reader of pages. It stands for the bytes that it was fed and has not given as pages.
 #[derive(Drop)]
 pub struct PageReader {
@@ -83,8 +96,7 @@ impl PageReader {
         ensures count { result ≡ min (length piece.now) (65307 - length self.old) }
         ensures held { self.new ≡ self.old ++ take result piece.now }
     {
-        self.bytes.copy_within(self.start.., 0);
-        self.bytes.truncate(self.bytes.len() - self.start);
+        drop_front(&mut self.bytes, self.start);
         self.start = 0;
         let count = piece.len().min(MAX_PAGE_LEN - self.bytes.len());
         let (taken, _) = piece.split_at(count);
