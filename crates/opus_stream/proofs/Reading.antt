@@ -378,7 +378,7 @@ last_bytes-more bytes more front h =
     ap (take (b - a)) (drop-append-le a bytes more (omega arith)) ∙ take-append-le (b - a) (drop a bytes) more (simp length-drop (omega arith))
 
 pub fed_holds : (r next : Reader) (bytes more : List ℕ) (front : List Page) → Holds r bytes front → AreBytes more → next.pages ≡ r.pages ++ more → next.progress ≡ r.progress → next.given ≡ r.given → next.room ≡ r.room → next.page ≡ r.page
-    → next.fed ≡ r.fed + length more → next.fault ≡ r.fault → next.is_settled ≡ false → Holds next (bytes ++ more) front
+    → next.fed ≡ r.fed + length more → next.fault ≡ r.fault → (next.is_settled ≡ true → (r.is_settled ≡ true) × (more ≡ [])) → Holds next (bytes ++ more) front
 fed_holds r next bytes more front h more_small pages progress given room page fed fault settled =
     let l : length (bytes ++ more) ≡ length bytes + length more = length-append bytes more in
     let inside = h.inside in
@@ -391,9 +391,16 @@ fed_holds r next bytes more front h more_small pages progress given room page fe
       page = page ∙ h.page ∙ sym (last_bytes-more bytes more front h.inside);
       gives = subst (λ l. Gives next.given next.room (page_of l) front) (sym page) (subst (λ o. Gives o next.room (page_of r.page) front) (sym given) (subst (λ k. Gives r.given k (page_of r.page) front) (sym room) h.gives));
       goes_on = subst (λ f. GoesOn f next (bytes ++ more) front) (sym fault) (same r.fault h.goes_on);
-      drained = λ s. let f : ⊥ = cc in absurd f;
+      drained = λ s. let d = h.drained (settled s).0 in still d (pages ∙ ap (λ l. r.pages ++ l) (settled s).1 ∙ append-nil r.pages);
     }
   where
+    still : IsDrained r → next.pages ≡ r.pages → IsDrained next
+    still d same_pages = record {
+      sound = fault ∙ d.sound;
+      need = ap verdict same_pages ∙ d.need;
+      none = λ e. same_pages ∙ d.none (sym (ap (λ (p : Progress). p.is_ended) progress) ∙ e);
+    }
+
     same : (f : Option Fault) → GoesOn f r bytes front → GoesOn f next (bytes ++ more) front
     same None g = record {
       behind = drop-append-le (size_of front) bytes more h.inside ∙ ap (λ l. l ++ more) g.behind ∙ sym pages;

@@ -1,5 +1,5 @@
 //! A reader of streams from pieces of bytes. It takes no memory after it was made.
-ghost use Rattle.std.specs.Prelude.{◌≡◌, ◌≤◌, ◌<◌, ◌^◌};
+ghost use Rattle.std.specs.Prelude.{◌≡◌, ◌≤◌, ◌<◌, ◌^◌, true};
 ghost use Rattle.opus_stream.specs.Readers.{Reader};
 
 use crate::accepting::{Given, NOTHING};
@@ -14,6 +14,15 @@ use ogg_pages::reader::PageReader;
 use opus_packets::Head;
 use std::alloc::Global;
 use std::marker::Model;
+
+/// Whether it is still settled that no page is left, where so many bytes are fed.
+fn stays_settled(is_settled: bool, count: usize) -> bool
+    ensures same { count ≡ 0 → result ≡ is_settled }
+    ensures settled { result ≡ true → is_settled ≡ true }
+    ensures none { result ≡ true → count ≡ 0 }
+{
+    is_settled && count == 0
+}
 
 /// Reads a stream of Ogg pages as packets of Opus. It holds the bytes of one page, a copy of the page that was
 /// given last, and the packets that end on it.
@@ -94,12 +103,13 @@ impl StreamReader {
         ensures count { result ≡ min (length piece.now) (free_room self.old) }
         ensures longer { (bytes : List ℕ) (given : ℕ) → StandsFor self.old bytes given →
             StandsFor self.new (bytes ++ take result piece.now) given }
+        ensures settled { result ≡ 0 → self.new.is_settled ≡ self.old.is_settled }
         ensures fed { bytes_fed self.new ≡ bytes_fed self.old + result }
         ensures free { free_room self.new ≡ free_room self.old - result }
     {
         let count = self.pages.feed(piece);
         self.fed += count as u64;
-        self.is_settled = false;
+        self.is_settled = stays_settled(self.is_settled, count);
         count
     }
 

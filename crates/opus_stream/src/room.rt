@@ -1,6 +1,6 @@
 //! The bytes of a page's packets: those of the packet that was open before the page, and behind them the
 //! page's segments.
-ghost use Rattle.std.specs.Prelude.{◌≡◌};
+ghost use Rattle.std.specs.Prelude.{◌≡◌, ◌+◌, ◌≤◌, length, drop, vec_capacity};
 
 use celt_base::status::OutOfMemory;
 use std::alloc::Global;
@@ -9,27 +9,59 @@ use std::marker::Model;
 /// The longest audio packet that can be open, and the segments of two pages.
 const ROOM: usize = 61440 + 2 * 65025;
 
+/// Leaves out the first bytes. Where there are none to leave out, nothing is moved.
+fn drop_front(bytes: &mut Vec<u8>, count: usize)
+    requires { count ≤ length bytes.old.items }
+    ensures bytes { bytes.new.items ≡ drop count bytes.old.items }
+    ensures capacity { vec_capacity bytes.new ≡ vec_capacity bytes.old }
+{
+    if count == 0 {
+        return;
+    }
+    bytes.copy_within(count.., 0);
+    bytes.truncate(bytes.len() - count);
+}
+
+/// How many of the `start` bytes that are done with go, of `end` in all, so that there is place for more: none
+/// while there is place.
+fn surplus(start: usize, end: usize, more: usize) -> usize
+    requires end { end ≤ start + 126465 }
+    requires more { more ≤ 65025 }
+    ensures done { result ≤ start }
+    ensures place { end + more ≤ result + 191490 }
+{
+    if end > ROOM - more { start } else { 0 }
+}
+
 /// The bytes of the page that was accepted last, and behind them those of the page that is tested. A page
-/// that is not accepted leaves those of the one before as they are.
+/// that is not accepted leaves those of the one before as they are. A page's bytes are moved only where there
+/// is no place behind them for the next one.
 #[derive(Drop)]
 pub(crate) struct Room {
     bytes: Vec<u8>,
-    /// How many of them are of the accepted page, with those of the packet that was open before it.
-    len: usize,
+    /// Where the bytes of the accepted page begin, with those of the packet that was open before it.
+    start: usize,
     /// Where the packet begins that is open behind that page.
     left: usize,
+    /// Where the bytes of the accepted page end.
+    end: usize,
 }
 
 impl Model for Room {
-    ghost use Rattle.std.specs.Prelude.{◌≤◌, ◌+◌, length, take, drop, vec_capacity};
+    ghost use Rattle.std.specs.Prelude.{◌≤◌, ◌+◌, ◌-◌, length, take, drop, vec_capacity};
     ghost use Rattle.opus_stream.specs.Rooms.{Kept};
 
     ghost Value = { Kept };
 
-    ghost view = { λ r. record { given = take r.len r.bytes.items; offered = drop r.left r.bytes.items; left = r.left } };
+    ghost view = { λ r. record {
+      given = drop r.start (take r.end r.bytes.items);
+      offered = drop r.left r.bytes.items;
+      left = r.left - r.start;
+    } };
 
-    ghost invariant = { λ r. (r.left ≤ r.len) × (r.len ≤ r.left + 61440) × (r.len ≤ 126465) × (r.len ≤ length r.bytes.items)
-        × (length r.bytes.items ≤ r.len + 65025) × (191490 ≤ vec_capacity r.bytes) };
+    ghost invariant = { λ r. (r.start ≤ r.left) × (r.left ≤ r.end) × (r.end ≤ r.left + 61440) × (r.end ≤ r.start + 126465)
+        × (r.end ≤ length r.bytes.items) × (length r.bytes.items ≤ r.end + 65025) × (length r.bytes.items ≤ 191490)
+        × (191490 ≤ vec_capacity r.bytes) };
 }
 
 impl Room {
@@ -43,8 +75,9 @@ impl Room {
         match Vec::with_capacity(alloc, ROOM) {
             Ok(bytes) => Ok(Room {
                 bytes,
-                len: 0,
+                start: 0,
                 left: 0,
+                end: 0,
             }),
             Err(_) => Err(OutOfMemory),
         }
@@ -55,7 +88,8 @@ impl Room {
         ensures value { result.now ≡ self.now.given }
         ensures short { length result.now ≤ 126465 }
     {
-        let (given, _) = self.bytes.split_at(self.len);
+        let (bytes, _) = self.bytes.split_at(self.end);
+        let (_, given) = bytes.split_at(self.start);
         given
     }
 
@@ -72,7 +106,7 @@ impl Room {
         ensures value { result ≡ length (drop self.now.left self.now.given) }
         ensures short { result ≤ 61440 }
     {
-        self.len - self.left
+        self.end - self.left
     }
 
     /// Takes the segments of a page that is to be tested.
@@ -82,7 +116,12 @@ impl Room {
         ensures left { self.new.left ≡ self.old.left }
         ensures offered { self.new.offered ≡ drop self.old.left self.old.given ++ body.now }
     {
-        self.bytes.truncate(self.len);
+        let gone = surplus(self.start, self.end, body.len());
+        self.bytes.truncate(self.end);
+        drop_front(&mut self.bytes, gone);
+        self.start -= gone;
+        self.left -= gone;
+        self.end -= gone;
         self.bytes.extend_from_slice(body).unwrap();
     }
 
@@ -94,11 +133,9 @@ impl Room {
         ensures left { self.new.left ≡ left }
         ensures behind { self.new.offered ≡ drop left self.old.offered }
     {
-        let len = self.bytes.len() - self.left;
-        self.bytes.copy_within(self.left.., 0);
-        self.bytes.truncate(len);
-        self.len = len;
-        self.left = left;
+        self.start = self.left;
+        self.left += left;
+        self.end = self.bytes.len();
     }
 
     /// Of no page, as a new one.
@@ -106,7 +143,8 @@ impl Room {
         ensures { self.new ≡ record { given = []; offered = []; left = 0 } }
     {
         self.bytes.clear();
-        self.len = 0;
+        self.start = 0;
         self.left = 0;
+        self.end = 0;
     }
 }

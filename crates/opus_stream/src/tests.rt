@@ -4,7 +4,7 @@ ghost use Rattle.opus_stream.specs.Readers.{bytes_fed};
 
 use crate::answers::{Accept, Span};
 use crate::reader::StreamReader;
-use crate::rows::ROWS;
+use crate::rows::{LONG_ROWS, ROWS, known_page};
 use celt_base::status::{Fault, FaultName};
 use ogg_pages::checksum::checksum_of;
 use opus_packets::Head;
@@ -73,28 +73,55 @@ fn push_run(bytes: &mut Vec<u8>, count: usize, byte: u8) -> Result<(), AllocErro
     Ok(())
 }
 
-/// The number of segments that stands in a header.
-fn put_count(page: &mut Vec<u8>, count: usize) {
-    if page.len() > 26 {
-        page[26] = (count % 256) as u8;
+/// Puts bytes behind others: hexadecimal digits, and behind a point how many bytes 0 follow them.
+fn push_bytes(bytes: &mut Vec<u8>, word: &str) -> Result<(), AllocError> {
+    match word.split_once('.') {
+        Some((digits, zeros)) => {
+            push_digits(bytes, digits)?;
+            push_run(bytes, Words { rest: zeros }.size(), 0)
+        }
+        None => push_digits(bytes, word),
     }
 }
 
-/// The header of a page without its checksum and number of segments, and whether a bit of the checksum is
-/// to be broken.
-fn header(words: &mut Words) -> ([u8; 27], bool) {
-    let broken = words.next();
+/// Puts the lacing values of a packet, and its bytes, behind others. One that is open has no last value below
+/// 255.
+fn push_packet(lacing: &mut Vec<u8>, body: &mut Vec<u8>, word: &str) -> Result<(), AllocError> {
+    let start = body.len();
+    let open = word.split_once('+');
+    push_bytes(body, open.map_or(word, |(front, _)| front))?;
+    let len = body.len().saturating_sub(start);
+    push_run(lacing, len / 255, 255)?;
+    if open.is_none() {
+        lacing.push((len % 255) as u8)?;
+    }
+    Ok(())
+}
+
+/// Whether a letter is among those of what is broken.
+fn is_broken(letters: &str, letter: u8) -> bool {
+    letters.as_bytes().iter().any(|byte| *byte == letter)
+}
+
+/// The header of a page without its checksum and number of segments.
+fn header(letters: &str, words: &mut Words) -> [u8; 27] {
     let flags = (words.size() % 256) as u8;
     let [g0, g1, g2, g3, g4, g5, g6, g7] = words.number().to_le_bytes();
     let [s0, s1, s2, s3] = (words.size() as u32).to_le_bytes();
-    let letter = if broken == "C" { b'X' } else { b'S' };
-    let version = u8::from(broken == "V");
-    let serial = 1 + u8::from(broken == "S");
-    let bytes = [
-        b'O', b'g', b'g', letter, version, flags, g0, g1, g2, g3, g4, g5, g6, g7, serial, 0, 0, 0,
+    let last = if is_broken(letters, b'C') { b'X' } else { b'S' };
+    let version = u8::from(is_broken(letters, b'V'));
+    let serial = 1 + u8::from(is_broken(letters, b'S'));
+    [
+        b'O', b'g', b'g', last, version, flags, g0, g1, g2, g3, g4, g5, g6, g7, serial, 0, 0, 0,
         s0, s1, s2, s3, 0, 0, 0, 0, 0,
-    ];
-    (bytes, broken == "K")
+    ]
+}
+
+/// Puts the number of segments of a page, which has no bytes behind its lacing values yet, into its place.
+fn put_count(page: &mut Vec<u8>) {
+    if page.len() > 26 {
+        page[26] = ((page.len() - 27) % 256) as u8;
+    }
 }
 
 /// Puts the checksum of a page into its place.
@@ -106,29 +133,29 @@ fn put_sum(page: &mut Vec<u8>, is_broken: bool) {
     page[22..26].copy_from_slice(&sum.to_le_bytes());
 }
 
-/// Puts the lacing values of a page behind others, and answers how many there are.
-fn push_lacing(page: &mut Vec<u8>, words: &mut Words) -> Result<usize, AllocError> {
-    let mut count = 0usize;
+/// A page whose words follow those letters.
+fn spelled_page(alloc: Global, letters: &str, words: &mut Words) -> Result<Vec<u8>, AllocError> {
+    let mut page = Vec::from_slice(alloc, &header(letters, words))?;
+    let mut body = Vec::new(alloc);
     for _ in 0..words.size() {
-        let run = words.size();
-        count = count.wrapping_add(run);
-        let value = (words.size() % 256) as u8;
-        push_run(page, run, value)?;
+        push_packet(&mut page, &mut body, words.next())?;
     }
-    Ok(count)
+    put_count(&mut page);
+    page.extend_from_slice(&body)?;
+    put_sum(&mut page, is_broken(letters, b'K'));
+    Ok(page)
 }
 
 /// The next page of a row.
 fn page_of(alloc: Global, words: &mut Words) -> Result<Vec<u8>, AllocError> {
-    let (header, is_broken) = header(words);
-    let mut page = Vec::from_slice(alloc, &header)?;
-    let count = push_lacing(&mut page, words)?;
-    put_count(&mut page, count);
-    push_digits(&mut page, words.next())?;
-    let fill = words.size();
-    push_run(&mut page, fill, 0)?;
-    put_sum(&mut page, is_broken);
-    Ok(page)
+    let word = words.next();
+    let known = known_page(word);
+    if known.is_empty() {
+        return spelled_page(alloc, word, words);
+    }
+    let mut words = Words { rest: known };
+    let letters = words.next();
+    spelled_page(alloc, letters, &mut words)
 }
 
 /// The bytes of a row's stream.
@@ -138,7 +165,14 @@ fn bytes_of(alloc: Global, words: &mut Words) -> Result<Vec<u8>, AllocError> {
         let page = page_of(alloc, words)?;
         bytes.extend_from_slice(&page)?;
     }
-    push_digits(&mut bytes, words.next())?;
+    let behind = words.next();
+    match behind.split_once('-') {
+        Some((_, missing)) => {
+            let missing = Words { rest: missing }.size();
+            bytes.truncate(bytes.len().saturating_sub(missing));
+        }
+        None => push_digits(&mut bytes, behind)?,
+    }
     Ok(bytes)
 }
 
@@ -149,15 +183,21 @@ fn mixed(digest: u32, number: u64) -> u32 {
         .wrapping_add((number % 0x1_0000_0000) as u32)
 }
 
+/// A digest with more bytes.
+fn with_bytes(digest: u32, bytes: &[u8]) -> u32 {
+    let mut digest = digest;
+    for byte in bytes {
+        digest = mixed(digest, u64::from(*byte));
+    }
+    digest
+}
+
 /// The digest of the packets that end on the page that was given last.
 fn packets_digest(reader: &StreamReader) -> u32 {
     let mut digest = 0;
     for i in 0..reader.packets() {
         let packet = reader.packet(i);
-        digest = mixed(digest, packet.len() as u64);
-        for byte in packet {
-            digest = mixed(digest, u64::from(*byte));
-        }
+        digest = with_bytes(mixed(digest, packet.len() as u64), packet);
     }
     digest
 }
@@ -266,11 +306,7 @@ fn compare(
 ) -> Result<(), AllocError>
     requires { length bytes.now < 2 ^ 32 }
 {
-    for step in [1, 7, 4096, 0x10_0000] {
-        // Each byte of a long page would be looked at again with each small piece.
-        if bytes.len() > 4000 && step < 4096 {
-            continue;
-        }
+    for step in [1, 7, 4096, bytes.len()] {
         let Ok(mut reader) = StreamReader::new(alloc) else {
             return Err(AllocError);
         };
@@ -280,19 +316,44 @@ fn compare(
     Ok(())
 }
 
-#[test]
-fn rows(rt: HostRuntime) -> Result<(), AllocError> {
+/// Compares what a row says with what a reader gives.
+fn compare_row(rt: &impl std::process::Abort, alloc: Global, line: &str) -> Result<(), AllocError> {
+    let mut words = Words { rest: line };
+    let name = words.next();
+    let bytes = bytes_of(alloc, &mut words)?;
+    assert_eq!(rt;
+        with_bytes(0, &bytes),
+        words.size() as u32,
+        "the bytes of {name}"
+    );
+    let want = told_of(&mut words);
+    assert!(rt; bytes.len() < 0x1_0000_0000);
+    compare(rt, alloc, name, &bytes, want)
+}
+
+/// Compares each row of a table, and answers how many there are.
+fn compare_rows(
+    rt: &impl std::process::Abort,
+    alloc: Global,
+    table: &str,
+) -> Result<usize, AllocError> {
     let mut count = 0usize;
-    for line in ROWS.lines() {
-        let mut words = Words { rest: line };
-        let name = words.next();
-        let bytes = bytes_of(rt.alloc(), &mut words)?;
-        let want = told_of(&mut words);
-        assert!(rt; bytes.len() < 0x1_0000_0000);
-        compare(&rt, rt.alloc(), name, &bytes, want)?;
+    for line in table.lines() {
+        compare_row(rt, alloc, line)?;
         count = count.wrapping_add(1);
     }
-    assert_eq!(rt; count, 304);
+    Ok(count)
+}
+
+#[test]
+fn rows(rt: HostRuntime) -> Result<(), AllocError> {
+    assert_eq!(rt; compare_rows(&rt, rt.alloc(), ROWS)?, 525);
+    Ok(())
+}
+
+#[test]
+fn long_rows(rt: HostRuntime) -> Result<(), AllocError> {
+    assert_eq!(rt; compare_rows(&rt, rt.alloc(), LONG_ROWS)?, 49);
     Ok(())
 }
 
@@ -302,8 +363,7 @@ fn bytes_of_text(alloc: Global, text: &str) -> Result<Vec<u8>, AllocError> {
 }
 
 /// A stream of one packet: its pages end at 47, 83 and 114.
-const SHORT: &str = "3 - 2 0 0 1 1 19 4f707573486561640101000080bb0000000000 0 \
-    - 0 0 1 1 1 8 4f70757354616773 0 - 4 960 2 1 1 3 f8fffe 0 .";
+const SHORT: &str = "3 head tags last .";
 
 // Every cut of a short stream: it is the page that is cut, or the one that is missing.
 #[test]
@@ -337,8 +397,8 @@ fn cut_at(len: usize) -> Told {
 }
 
 /// Two audio pages of 960 samples each, with the granule positions 10000 and 10500, and two bytes more.
-const TRIMMED: &str = "4 - 2 0 0 1 1 19 4f7075734865616401020a0080bb0000010000 0 \
-    - 0 0 1 1 1 8 4f70757354616773 0 - 0 10000 2 1 1 3 f8fffe 0 - 4 10500 3 1 1 3 f8fffe 0 4f67";
+const TRIMMED: &str = "4 - 2 0 0 1 4f7075734865616401020a0080bb0000010000 tags \
+    - 0 10000 2 1 f8fffe - 4 10500 3 1 f8fffe 4f67";
 
 /// What a reader shows.
 #[derive(Clone, Copy, Debug, PartialEq, Eq)]
@@ -443,23 +503,34 @@ fn put_sequence(page: &mut Vec<u8>, sequence: u32) {
     put_sum(page, false);
 }
 
-// A comment header of 3 MB over 47 pages.
+/// Puts a page behind others, so many times, with the sequence numbers from one up to another.
+fn push_pages(
+    bytes: &mut Vec<u8>,
+    page: &mut Vec<u8>,
+    from: u32,
+    to: u32,
+) -> Result<(), AllocError> {
+    for sequence in from..to {
+        put_sequence(page, sequence);
+        bytes.extend_from_slice(page)?;
+    }
+    Ok(())
+}
+
+// A comment header of 3 MB over 2300 pages, two of them as long as a page can be.
 #[test]
 fn long_comments(rt: HostRuntime) -> Result<(), AllocError> {
     let alloc = rt.alloc();
-    let mut bytes = bytes_of_text(
-        alloc,
-        "2 - 2 0 0 1 1 19 4f707573486561640101000080bb0000000000 0 - 0 0 1 1 255 255 4f70757354616773 65017 .",
-    )?;
-    let mut full = bytes_of_text(alloc, "1 - 1 -1 0 1 255 255 . 65025 .")?;
-    for sequence in 2..47u32 {
-        put_sequence(&mut full, sequence);
-        bytes.extend_from_slice(&full)?;
-    }
-    let rest = bytes_of_text(alloc, "2 - 1 0 47 1 1 10 . 10 - 4 960 48 1 1 3 f8fffe 0 .")?;
+    let mut bytes = bytes_of_text(alloc, "2 head - 0 0 1 1 4f70757354616773.65017+ .")?;
+    let mut full = bytes_of_text(alloc, "1 - 1 -1 0 1 .65025+ .")?;
+    push_pages(&mut bytes, &mut full, 2, 3)?;
+    let mut short = bytes_of_text(alloc, "1 - 1 -1 0 1 .1275+ .")?;
+    push_pages(&mut bytes, &mut short, 3, 2300)?;
+    let rest = bytes_of_text(alloc, "2 - 1 0 2300 1 .10 - 4 960 2301 1 f8fffe .")?;
     bytes.extend_from_slice(&rest)?;
+    assert_eq!(rt; with_bytes(0, &bytes), 774524277);
     let want = Told {
-        accepted: 49,
+        accepted: 2302,
         digest: 322792211,
         fault: None,
     };
