@@ -1,5 +1,5 @@
 -- What a reader of streams holds, the bytes and the number of given pages that it stands for, and its answers.
-use Rattle.std.specs.Prelude.{◌≡◌, ℕ, ◌+◌, ◌-◌, ◌≤◌, Bool, true, false, List, [], ◌++◌, length, drop, Option, None, Some}
+use Rattle.std.specs.Prelude.{◌≡◌, ℕ, ◌+◌, ◌-◌, ◌≤◌, Bool, true, false, List, [], ◌++◌, length, drop, slice_get, Option, None, Some}
 use Rattle.celt_base.specs.declared.status.Fault.{Fault}
 use Rattle.ogg_pages.specs.declared.page.Verdict.TheVariants as verdicts
 use Rattle.ogg_pages.specs.Verdicts.{verdict}
@@ -12,7 +12,7 @@ use Rattle.opus_stream.specs.declared.progress.Progress.{Progress}
 use Rattle.opus_stream.specs.declared.accepting.Given.{Given}
 use Rattle.opus_stream.specs.Rooms.{Kept}
 use Rattle.opus_stream.specs.Tests.{is_ended}
-use Rattle.opus_stream.specs.Acceptance.{accepted_after, fault_after, accepted, fault_of, is_end_name, answer_of, size_of, last_bytes}
+use Rattle.opus_stream.specs.Acceptance.{accepted_after, fault_after, accepted, fault_of, is_end_name, answer_of, end_fault_of, given_pages, size_of, last_bytes, last_packets}
 use Rattle.opus_stream.specs.Progressing.{StandsAfter}
 use Rattle.opus_stream.specs.Accepted.{left_in, Gives}
 
@@ -107,3 +107,14 @@ given_after (answers.Fault fault) given = given
 -- an answer that is the one over the bytes, whatever bytes the reader stands for
 abbrev pub IsAnswer : Reader → Accept → Type 0
 IsAnswer r answer = (bytes : List ℕ) (given : ℕ) → StandsFor r bytes given → answer ≡ answer_of bytes given
+
+-- a packet of the page that was given last, by its number; a number of bytes that belong to no given page; and a fault, or
+-- none, of a stream that ends here
+abbrev pub IsPacket : Reader → ℕ → List ℕ → Type 0
+IsPacket r i packet = (bytes : List ℕ) (given : ℕ) → StandsFor r bytes given → slice_get (last_packets (given_pages bytes given)) i ≡ Some packet
+
+abbrev pub IsHeld : Reader → ℕ → Type 0
+IsHeld r count = (bytes : List ℕ) (given : ℕ) → StandsFor r bytes given → count ≡ length bytes - size_of (given_pages bytes given)
+
+abbrev pub IsEnd : Reader → Option Fault → Type 0
+IsEnd r fault = (bytes : List ℕ) (given : ℕ) → StandsFor r bytes given → fault ≡ end_fault_of bytes

@@ -1,5 +1,5 @@
 //! Laws of the definitions alone: what whole streams of pages are (RFC 3533, RFC 7845). No body does anything.
-ghost use Rattle.std.specs.Prelude.{◌≡◌, ℕ, ◌≤◌, ◌-◌, ◌++◌, List, [], length, take, None, Some, false};
+ghost use Rattle.std.specs.Prelude.{◌≡◌, ℕ, ◌≤◌, ◌-◌, ◌++◌, List, [], length, take, Option, None, Some, false};
 ghost use Rattle.std.specs.List.{All, AllPairs, flat_map};
 ghost use Rattle.celt_base.specs.declared.status.Fault.{Fault};
 ghost use Rattle.ogg_pages.specs.Fields.{Page};
@@ -9,7 +9,7 @@ ghost use Rattle.opus_stream.specs.Granules.{given_on};
 ghost use Rattle.opus_stream.specs.Acceptance.{accepted, fault_of, is_end_name, audio_in, audio_packets, head_in, preskip_of};
 ghost use Rattle.opus_stream.specs.Spans.{places_after, written_in};
 ghost use Rattle.opus_stream.specs.Carrying.{Carries, AreSound, IsSpelled};
-ghost use Rattle.opus_stream.specs.Readers.{Reader, StandsFor, IsAnswer, packets_of, is_ended_in};
+ghost use Rattle.opus_stream.specs.Readers.{Reader, StandsFor, IsAnswer, IsPacket, IsHeld, IsEnd, packets_of, is_ended_in};
 
 /// A fault that is not one of the end stays whatever bytes follow, and no further page is accepted.
 pub fn law_fault_stays()
@@ -41,12 +41,18 @@ pub fn law_readers_alike()
         StandsFor first bytes given → StandsFor second bytes given → first.page ≡ second.page }
     ensures packets { (first second : Reader) (bytes : List ℕ) (given : ℕ) →
         StandsFor first bytes given → StandsFor second bytes given → packets_of first ≡ packets_of second }
+    ensures packet { (first second : Reader) (bytes : List ℕ) (given i : ℕ) (a b : List ℕ) →
+        StandsFor first bytes given → StandsFor second bytes given → IsPacket first i a → IsPacket second i b → a ≡ b }
     ensures written { (first second : Reader) (bytes : List ℕ) (given : ℕ) →
         StandsFor first bytes given → StandsFor second bytes given → first.given.written ≡ second.given.written }
     ensures head { (first second : Reader) (bytes : List ℕ) (given : ℕ) →
         StandsFor first bytes given → StandsFor second bytes given → first.progress.head ≡ second.progress.head }
     ensures ended { (first second : Reader) (bytes : List ℕ) (given : ℕ) →
         StandsFor first bytes given → StandsFor second bytes given → is_ended_in first ≡ is_ended_in second }
+    ensures held { (first second : Reader) (bytes : List ℕ) (given a b : ℕ) →
+        StandsFor first bytes given → StandsFor second bytes given → IsHeld first a → IsHeld second b → a ≡ b }
+    ensures end { (first second : Reader) (bytes : List ℕ) (given : ℕ) (a b : Option Fault) →
+        StandsFor first bytes given → StandsFor second bytes given → IsEnd first a → IsEnd second b → a ≡ b }
 {}
 
 /// However headers and sound audio packets are cut into pages, with the flags, numbers and granule positions that are

@@ -65,7 +65,7 @@ impl StreamReader {
     ghost use Rattle.opus_stream.specs.declared.answers.Accept.TheVariants.{Need};
     ghost use Rattle.opus_stream.specs.Tests.{is_ended};
     ghost use Rattle.opus_stream.specs.Acceptance.{answer_of, end_fault_of, given_pages, size_of, last_bytes, last_packets, last_span, head_in};
-    ghost use Rattle.opus_stream.specs.Readers.{Reader, StandsFor, IsAnswer, bytes_fed, free_room, is_ended_in, packets_of, given_after};
+    ghost use Rattle.opus_stream.specs.Readers.{Reader, StandsFor, IsAnswer, IsPacket, IsHeld, IsEnd, bytes_fed, free_room, is_ended_in, packets_of, given_after};
 
     /// A reader that was fed nothing. It reserves the room for a page, a copy of a page, and an open packet with
     /// the segments of the page that was given and of the one that is tested.
@@ -179,8 +179,7 @@ impl StreamReader {
     /// An audio packet that ends on the page that was given last, by its number from 0.
     pub fn packet(&self, i: usize) -> &[u8]
         requires { i < packets_of self.now }
-        ensures { (bytes : List ℕ) (given : ℕ) → StandsFor self.now bytes given →
-            slice_get (last_packets (given_pages bytes given)) i ≡ Some result.now }
+        ensures { IsPacket self.now i result.now }
     {
         let bytes = self.room.given();
         packet_at(
@@ -221,8 +220,7 @@ impl StreamReader {
 
     /// The number of bytes that belong to no given page.
     pub fn held(&self) -> usize
-        ensures { (bytes : List ℕ) (given : ℕ) → StandsFor self.now bytes given →
-            result ≡ length bytes - size_of (given_pages bytes given) }
+        ensures { IsHeld self.now result }
     {
         (self.fed - self.progress.bytes) as usize
     }
@@ -231,7 +229,7 @@ impl StreamReader {
     /// bytes are needed.
     pub fn end(&self) -> Option<Fault>
         requires { self.now.is_settled ≡ true }
-        ensures { (bytes : List ℕ) (given : ℕ) → StandsFor self.now bytes given → result ≡ end_fault_of bytes }
+        ensures { IsEnd self.now result }
     {
         if self.progress.is_ended {
             None

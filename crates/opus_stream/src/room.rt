@@ -29,6 +29,7 @@ fn surplus(start: usize, end: usize, more: usize) -> usize
     requires more { more ≤ 65025 }
     ensures done { result ≤ start }
     ensures place { end + more ≤ result + 191490 }
+    ensures none { end + more ≤ 191490 → result ≡ 0 }
 {
     if end > ROOM - more { start } else { 0 }
 }

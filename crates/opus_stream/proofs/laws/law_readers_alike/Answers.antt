@@ -1,4 +1,4 @@
-use Rattle.std.proofs.Common.{length, sym, ◌∙◌, ap}
+use Rattle.std.proofs.Common.{◌≡◌, length, sym, ◌∙◌, ap, Some}
 use Rattle.opus_stream.specs.Acceptance.{last_bytes, last_packets, last_span, head_in}
 use Rattle.opus_stream.specs.Tests.{is_ended}
 use Rattle.opus_stream.proofs.Reading.{given_is}
@@ -26,3 +26,13 @@ returns-clause-head c = λ first second bytes given s t.
 pub returns-clause-ended : goal.returns-clause-ended
 returns-clause-ended c = λ first second bytes given s t.
     s.holds.progress.placed.ended ∙ ap is_ended (sym (given_is first bytes given s) ∙ given_is second bytes given t) ∙ sym t.holds.progress.placed.ended
+
+pub returns-clause-packet : goal.returns-clause-packet
+returns-clause-packet c = λ first second bytes given i a b s t x y.
+    let both : Some a ≡ Some b = sym (x bytes given s) ∙ y bytes given t in cc
+
+pub returns-clause-held : goal.returns-clause-held
+returns-clause-held c = λ first second bytes given a b s t x y. x bytes given s ∙ sym (y bytes given t)
+
+pub returns-clause-end : goal.returns-clause-end
+returns-clause-end c = λ first second bytes given a b s t x y. x bytes given s ∙ sym (y bytes given t)
