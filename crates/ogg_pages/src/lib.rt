@@ -2,6 +2,7 @@
 #![tactic(auto)]
 
 pub mod checksum;
+pub mod held;
 pub mod laws;
 pub mod page;
 pub mod reader;

@@ -3,6 +3,7 @@
 ghost use Rattle.std.specs.Prelude.{◌≡◌, ◌+◌, ◌-◌, ◌≤◌, List, ℕ, [], ◌++◌, length, min, drop, take, IfOk, vec_capacity};
 ghost use Rattle.ogg_pages.specs.Steps.{IsStep};
 
+use crate::held::drop_front;
 use crate::page::{MAX_PAGE_LEN, PageFault, Verdict, judge};
 use crate::view::PageView;
 use celt_base::status::OutOfMemory;
@@ -32,19 +33,6 @@ pub fn page_at(bytes: &[u8]) -> Step<'_>
         Verdict::Need => Step::Need,
         Verdict::Fault(fault) => Step::Fault(fault),
     }
-}
-
-// Leaves out the first bytes. Where there are none to leave out, nothing is moved.
-fn drop_front(bytes: &mut Vec<u8>, count: usize)
-    requires { count ≤ length bytes.old.items }
-    ensures bytes { bytes.new.items ≡ drop count bytes.old.items }
-    ensures capacity { vec_capacity bytes.new ≡ vec_capacity bytes.old }
-{
-    if count == 0 {
-        return;
-    }
-    bytes.copy_within(count.., 0);
-    bytes.truncate(bytes.len() - count);
 }
 
 /// A reader of pages. It stands for the bytes that it was fed and has not given as pages.

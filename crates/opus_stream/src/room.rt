@@ -1,26 +1,14 @@
 //! The bytes of a page's packets: those of the packet that was open before the page, and behind them the
 //! page's segments.
-ghost use Rattle.std.specs.Prelude.{◌≡◌, ◌+◌, ◌≤◌, length, drop, vec_capacity};
+ghost use Rattle.std.specs.Prelude.{◌≡◌, ◌+◌, ◌≤◌};
 
 use celt_base::status::OutOfMemory;
+use ogg_pages::held::drop_front;
 use std::alloc::Global;
 use std::marker::Model;
 
 /// The longest audio packet that can be open, and the segments of two pages.
 const ROOM: usize = 61440 + 2 * 65025;
-
-/// Leaves out the first bytes. Where there are none to leave out, nothing is moved.
-fn drop_front(bytes: &mut Vec<u8>, count: usize)
-    requires { count ≤ length bytes.old.items }
-    ensures bytes { bytes.new.items ≡ drop count bytes.old.items }
-    ensures capacity { vec_capacity bytes.new ≡ vec_capacity bytes.old }
-{
-    if count == 0 {
-        return;
-    }
-    bytes.copy_within(count.., 0);
-    bytes.truncate(bytes.len() - count);
-}
 
 /// How many of the `start` bytes that are done with go, of `end` in all, so that there is place for more: none
 /// while there is place.
