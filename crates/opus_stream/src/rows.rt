@@ -30,9 +30,9 @@
 //! # Tests in pairs
 //!
 //! The rows `page-0:`, `page-1:` and `page-3:` of both tables break each test that such a page can be given, alone and
-//! with each other one. A test with several causes stands with each of them. Where packets break two tests the row
-//! stands in both orders, and with one packet for both. `not-there` has the broken byte cut off. Page 3 is an audio
-//! page behind another.
+//! with each other one. A test of headers that has several causes stands with each of them; of the rules of packets
+//! one stands for all, which have rows of their own. Where packets break two tests the row stands in both orders, and
+//! with one packet for both. `not-there` has the broken byte cut off. Page 3 is an audio page behind another.
 //!
 //! | Word | What is broken |
 //! |---|---|
@@ -47,15 +47,17 @@
 //! | `granule-start` | the stream would begin before 0 |
 //! | `ended` | the page before was the last |
 //!
-//! On page 0 there are further `not-first` (no flag 2), `packets` (two), `short` (18 bytes), `letters`, `version-16`,
-//! `family`, `channels` and `last` (flag 4). On page 1 there are `short` (seven bytes), `letters`, `behind` (a segment
-//! behind the comment header) and `no-end` (flag 4, and the comment header does not end).
+//! On page 0 there are further `not-first` (no flag 2), `empty` (no segments), `unfinished` (its packet stays open),
+//! `packets` (two), `short` (18 bytes), `letters`, `version-16`, `family`, `channels` and `last` (flag 4). On page 1
+//! there are `short` (seven bytes), `letters`, `behind` (a segment behind the comment header) and `no-end` (flag 4, and
+//! the comment header does not end).
 //!
 //! These pairs cannot be on one page:
 //!
 //! - `continued` and `not-continued`: a packet is open or none is.
 //! - On page 0 `serial`, `gap`, `not-continued` and `ended` with any: they speak of pages before.
 //! - On page 0 `short` and `family`: 18 bytes have no family.
+//! - On page 0 `empty` with all that speak of its packets.
 //! - On page 1 `not-continued` and `ended` with any: an accepted page 0 leaves no packet open and is not the last.
 //!   `not-continued` stands in the rows `page-2:` instead, on a second page of the comment header, but for `short`,
 //!   since 255 bytes are there already.
@@ -63,7 +65,8 @@
 //! - On page 3 `ended` and `not-continued`: a last page leaves no packet open.
 //! - On page 3 `granule-start` with `granule-below` and `left-open`: it asks for no flag 4, and they for flag 4.
 //!
-//! And these cannot be without a third: on page 0 `left-open` is `packets` and `last` too; on page 1 it is `no-end`,
+//! And these cannot be without a third: on page 0 `left-open` is `last` too, and `unfinished` or `packets`, so that
+//! `unfinished` with `last` is `left-open`, and `short` with either is `packets` too; on page 1 it is `no-end`,
 //! or `behind` where the comment header ends, and `short` is `letters` too; on page 3 `open-too-long` with
 //! `granule-below` is `left-open` too.
 
@@ -593,6 +596,27 @@ page-0:version-16,last 1 - 6 0 0 1 4f707573486561641001000080bb.5 . 1338328900 0
 page-0:family,channels 1 - 2 0 0 1 4f707573486561640103000080bb0000000001 . 2076382367 0 0 8 0 0
 page-0:family,last 1 - 6 0 0 1 4f707573486561640101000080bb0000000001 . 3895586900 0 0 8 0 0
 page-0:channels,last 1 - 6 0 0 1 4f707573486561640103000080bb.5 . 1515243859 0 0 7 0 0
+page-0:empty 1 - 2 0 0 0 . 1377400237 0 0 7 0 0
+page-0:empty,capture 1 C 2 0 0 0 . 1082659249 0 0 1 0 0
+page-0:empty,version 1 V 2 0 0 0 . 2697158213 0 0 2 0 0
+page-0:empty,cut 1 - 2 0 0 0 -1 1429905587 0 0 15 0 0
+page-0:empty,checksum 1 K 2 0 0 0 . 1376476716 0 0 3 0 0
+page-0:empty,continued 1 - 3 0 0 0 . 3733541686 0 0 6 0 0
+page-0:empty,not-first 1 - 0 0 0 0 . 1114660493 0 0 7 0 0
+page-0:empty,last 1 - 6 0 0 0 . 1828637639 0 0 7 0 0
+page-0:unfinished 1 - 2 0 0 1 4f707573486561640101000080bb.241+ . 2789194865 0 0 7 0 0
+page-0:unfinished,capture 1 C 2 0 0 1 4f707573486561640101000080bb.241+ . 305238563 0 0 1 0 0
+page-0:unfinished,version 1 V 2 0 0 1 4f707573486561640101000080bb.241+ . 767645105 0 0 2 0 0
+page-0:unfinished,cut 1 - 2 0 0 1 4f707573486561640101000080bb.241+ -1 3415109999 0 0 15 0 0
+page-0:unfinished,checksum 1 K 2 0 0 1 4f707573486561640101000080bb.241+ . 1557902322 0 0 3 0 0
+page-0:unfinished,continued 1 - 3 0 0 1 4f707573486561640101000080bb.241+ . 361651797 0 0 6 0 0
+page-0:unfinished,not-first 1 - 0 0 0 1 4f707573486561640101000080bb.241+ . 249511724 0 0 7 0 0
+page-0:unfinished,packets 1 - 2 0 0 2 4f707573486561640101000080bb.5 .255+ . 3628449070 0 0 7 0 0
+page-0:unfinished,short 1 - 2 0 0 2 4f707573486561640101000080bb.4 .255+ . 2040567427 0 0 7 0 0
+page-0:unfinished,letters 1 - 2 0 0 1 4f707573486561780101000080bb.241+ . 687114109 0 0 7 0 0
+page-0:unfinished,version-16 1 - 2 0 0 1 4f707573486561641001000080bb.241+ . 1425030990 0 0 7 0 0
+page-0:unfinished,family 1 - 2 0 0 1 4f707573486561640101000080bb0000000001.236+ . 1277826539 0 0 7 0 0
+page-0:unfinished,channels 1 - 2 0 0 1 4f707573486561640103000080bb.241+ . 3632709917 0 0 7 0 0
 page-2:not-continued 3 head - 0 0 1 1 4f70757354616773.247+ - 0 0 2 1 616263 . 2352809795 2 0 6 2 0
 page-2:not-continued,capture 3 head - 0 0 1 1 4f70757354616773.247+ C 0 0 2 1 616263 . 3991114870 2 0 1 2 0
 page-2:not-continued,version 3 head - 0 0 1 1 4f70757354616773.247+ V 0 0 2 1 616263 . 1399511861 2 0 2 2 0

@@ -347,7 +347,7 @@ fn compare_rows(
 
 #[test]
 fn rows(rt: HostRuntime) -> Result<(), AllocError> {
-    assert_eq!(rt; compare_rows(&rt, rt.alloc(), ROWS)?, 525);
+    assert_eq!(rt; compare_rows(&rt, rt.alloc(), ROWS)?, 546);
     Ok(())
 }
 
