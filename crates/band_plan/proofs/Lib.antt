@@ -1,0 +1,14 @@
+pub mod AngleSteps
+pub mod ChannelSteps
+pub mod LeafSteps
+pub mod OrderSteps
+pub mod PartBounds
+pub mod PartSteps
+pub mod PlanSteps
+pub mod FrameSteps
+pub mod StereoSteps
+pub mod ThetaSteps
+pub mod ShapeLaws
+pub mod BandLaws
+pub mod CountLaws
+pub mod NodeLaws

@@ -1,0 +1,10 @@
+pub mod Angles
+pub mod Channels
+pub mod Frames
+pub mod Orders
+pub mod Parts
+pub mod Pieces
+pub mod Plans
+pub mod Shapes
+pub mod Thetas
+pub mod Trees
