@@ -1,21 +1,19 @@
 -- The amounts of an angle, step by step.
-use Rattle.std.proofs.Common.{◌≡◌, ◌≢◌, ℕ, zero, suc, ◌+◌, ◌-◌, ◌*◌, ◌/◌, ◌%◌, ◌^◌, ◌<◌, ◌≤◌, Bool, true, false, not, ◌&&◌, ◌||◌, if◌then◌else◌, nat_lt, nat_eq, refl, sym, ◌∙◌, ap, subst, arith}
-use Rattle.std.specs.Prelude.{ℤ, pos, negsuc, neg_ℤ, ◌+ℤ◌, ◌-ℤ◌, ◌*ℤ◌, ◌≤ℤ◌, ◌<ℤ◌, unsigned_abs, int_le, int_lt, int_div, nat_le, FitsSigned, slice_index}
-use Rattle.std.specs.Int.{w64, w32, int_shr}
+use Rattle.std.proofs.Common.{◌≡◌, ◌≢◌, ℕ, ◌+◌, ◌-◌, ◌*◌, ◌/◌, ◌%◌, ◌^◌, ◌<◌, ◌≤◌, Bool, true, false, ◌&&◌, ◌||◌, if◌then◌else◌, nat_lt, nat_eq, refl, ◌∙◌, ap, arith}
+use Rattle.std.specs.Prelude.{ℤ, pos, negsuc, ◌+ℤ◌, ◌-ℤ◌, ◌*ℤ◌, ◌≤ℤ◌, ◌<ℤ◌, unsigned_abs, int_le, int_div, nat_le, FitsSigned, slice_index}
+use Rattle.std.specs.Int.{w32, int_shr}
 use Rattle.std.proofs.Math.Nat.{div-le_self}
 use Rattle.std.proofs.lemmas.Bool.Decides.{nat_tests}
 use Rattle.std.proofs.lemmas.Int.{ints, fits_signed_from_abs}
 use Rattle.std.proofs.lemmas.Bool.{and_parts}
 use Rattle.celt_base.proofs.Below.{all_below, at_each}
-use Rattle.band_plan.specs.declared.orders.Order.{Order}
 use Rattle.band_plan.specs.declared.angles.TheConstants.{POWERS}
 use Rattle.celt_tables.specs.declared.bands.TheConstants.{WIDTH_LOGARITHMS}
-use Rattle.band_plan.specs.Angles.{lesser, greater, price_of, numbers_of, shift_of, capacity_of, eighths_of, steps_at, steps_for, steps_of, theta_of, IsTheta, gain_of, delta_of, short_delta}
-use Rattle.band_plan.specs.Orders.{mid_of, order_by, order_of, later_of}
+use Rattle.band_plan.specs.Angles.{lesser, price_of, numbers_of, shift_of, capacity_of, eighths_of, steps_at, steps_for, steps_of, gain_of, delta_of, short_delta}
 use Rattle.celt_base.specs.Questions.{IsEven}
 use Rattle.fixed_math.specs.Bitexact.{log2_tangent}
 use Rattle.fixed_math.specs.Rounding.{rounded}
-use Rattle.fixed_math.proofs.RoundingLemmas.{product_within, quotient_within, shr_within, shr_low, shr_high}
+use Rattle.fixed_math.proofs.RoundingLemmas.{product_within, quotient_within, shr_within}
 
 logarithm_fits : ℕ → Bool
 logarithm_fits band = nat_le (slice_index WIDTH_LOGARITHMS band) 36

@@ -1,9 +1,8 @@
 -- Whatever is answered, a band's tree has its shape.
-use Rattle.std.proofs.Common.{◌≡◌, ◌≢◌, ℕ, zero, suc, ◌+◌, ◌-◌, ◌*◌, ◌/◌, ◌^◌, ◌<◌, ◌≤◌, Bool, true, false, not, ◌&&◌, List, [], ◌∷◌, ◌++◌, length, refl, sym, ◌∙◌, ap, subst, append_assoc, arith, nat_lt, nat_eq, if◌then◌else◌}
-use Rattle.std.specs.Prelude.{ℤ, pos, negsuc, ◌+ℤ◌, ◌-ℤ◌, int_le, int_lt, int_div, unsigned_abs, nat_le}
+use Rattle.std.proofs.Common.{◌≡◌, ◌≢◌, ℕ, zero, suc, ◌+◌, ◌<◌, ◌≤◌, Bool, true, false, not, ◌&&◌, List, [], ◌∷◌, ◌++◌, length, refl, sym, ◌∙◌, subst, append_assoc, arith, nat_eq, if◌then◌else◌}
+use Rattle.std.specs.Prelude.{ℤ, pos, ◌-ℤ◌, int_le, int_lt, int_div, nat_le}
 use Rattle.std.proofs.lemmas.List.{append-nil}
 use Rattle.std.proofs.lemmas.Bool.Decides.{nat_tests}
-use Rattle.std.proofs.lemmas.Int.{ints}
 use Rattle.band_plan.specs.declared.channels.Band.{Band}
 use Rattle.band_plan.specs.declared.orders.Order.{Order}
 use Rattle.band_plan.specs.declared.orders.Share.{Share}
@@ -13,21 +12,21 @@ use Rattle.band_plan.specs.declared.thetas.Timed.{Timed}
 use Rattle.band_plan.specs.Angles.{steps_of, IsTheta}
 use Rattle.band_plan.specs.Channels.{whole_of, entered_of, asks_flag, sign_script, channel_script, two_script, stereo_steps, stereo_question, inverted_of, inversion_script, stereo_theta_of, stereo_theta, side_cost, side_sign, pair_share, pair_script, side_of, mid_side_script, stereo_script}
 use Rattle.band_plan.specs.Orders.{stereo_order}
-use Rattle.band_plan.specs.Parts.{sides, part_script, Halves}
+use Rattle.band_plan.specs.Parts.{part_script, Halves}
 use Rattle.band_plan.specs.Plans.{Planned, band_of, is_two, band_script, planned_at, one_band, share_of, bands_script}
 use Rattle.band_plan.specs.Shapes.{IsPart, ByTest, IsSign, IsChannel, IsStereo, IsPair, IsBandTree, AreBandTrees}
 use Rattle.band_plan.specs.Thetas.{asks_timed, no_angle, angle_of}
-use Rattle.band_plan.specs.Trees.{Tree, Signed, Paired, Both, Split, used}
+use Rattle.band_plan.specs.Trees.{Tree, Signed, Paired, Both, used}
 use Rattle.celt_base.specs.declared.coder.Place.TheVariants.{Theta as AtTheta, Inversion, Sign}
 use Rattle.celt_base.specs.declared.kind.Kind.{Kind}
 use Rattle.celt_base.specs.declared.question.Question.TheVariants.{Bit, Uniform, Step, Raw}
 use Rattle.celt_base.specs.declared.state.Allocation.{Allocation}
-use Rattle.celt_base.specs.Paces.{Pace, tell_frac_of}
+use Rattle.celt_base.specs.Paces.{tell_frac_of}
 use Rattle.celt_base.specs.Questions.{IsBelow, IsAnswer, IsEven}
 use Rattle.celt_base.specs.WalkOrders.{MayGive}
 use Rattle.celt_base.specs.WalkScripts.{Script, Done, Begin, and_then, each}
 use Rattle.band_plan.proofs.PlanSteps.{size_is, end_most}
-use Rattle.band_plan.proofs.ShapeLaws.{Gave, gave, IsPlain, none_plain, angle_plain, timed_may, steps_of_even, AreSides, sides_may, part_may}
+use Rattle.band_plan.proofs.ShapeLaws.{gave, none_plain, angle_plain, timed_may, steps_of_even, sides_may, part_may}
 
 abbrev pub share_as : ℤ → ℤ → Share
 share_as bits left = record { bits = bits; left = left }

@@ -1,6 +1,6 @@
 -- The changes that the tables have, and what an allocation is to the walk.
-use Rattle.std.proofs.Common.{◌≡◌, ℕ, ◌+◌, ◌*◌, ◌^◌, ◌<◌, ◌≤◌, Bool, true, false, ◌&&◌, refl, sym, subst, arith, nat_eq}
-use Rattle.std.specs.Prelude.{◌≢◌, ℤ, pos, neg_ℤ, ◌≤ℤ◌, int_le, unsigned_abs, nat_le, slice_index_or}
+use Rattle.std.proofs.Common.{◌≡◌, ℕ, ◌^◌, ◌<◌, ◌≤◌, Bool, true, false, ◌&&◌, refl, sym, subst, arith, nat_eq}
+use Rattle.std.specs.Prelude.{◌≢◌, ℤ, pos, neg_ℤ, ◌≤ℤ◌, int_le, unsigned_abs, nat_le}
 use Rattle.std.proofs.lemmas.Bool.Decides.{nat_tests}
 use Rattle.std.proofs.lemmas.Bool.{and_parts}
 use Rattle.std.proofs.lemmas.Int.{ints}

@@ -1,5 +1,5 @@
 -- How many nodes the trees have.
-use Rattle.std.proofs.Common.{◌≡◌, ℕ, zero, suc, ◌+◌, ◌*◌, ◌/◌, ◌≤◌, Bool, true, false, List, [], ◌∷◌, ◌++◌, length, length-append, refl, arith, nat_eq}
+use Rattle.std.proofs.Common.{ℕ, zero, suc, ◌/◌, ◌≤◌, Bool, true, false, length, length-append, arith, nat_eq}
 use Rattle.band_plan.specs.declared.channels.Band.{Band}
 use Rattle.band_plan.specs.declared.symbols.BandSettings.{BandSettings}
 use Rattle.band_plan.specs.Parts.{most_nodes}

@@ -1,6 +1,6 @@
 -- The walks of a band and of all bands.
-use Rattle.std.proofs.Common.{◌≡◌, ◌≢◌, ℕ, zero, suc, ◌+◌, ◌-◌, ◌*◌, ◌/◌, ◌%◌, ◌^◌, ◌<◌, ◌≤◌, Bool, true, false, not, ◌&&◌, ◌||◌, List, [], ◌∷◌, ◌++◌, length, get_or, set, refl, sym, ◌∙◌, ap, subst, append_assoc, length-append, arith, nat_lt, nat_eq, if◌then◌else◌}
-use Rattle.std.specs.Prelude.{ℤ, pos, negsuc, ◌+ℤ◌, ◌-ℤ◌, ◌≤ℤ◌, ◌<ℤ◌, int_le, int_lt, int_div, unsigned_abs, nat_le, min, slice_index_or, IsTrue, replicate}
+use Rattle.std.proofs.Common.{◌≡◌, ◌≢◌, ℕ, zero, suc, ◌+◌, ◌-◌, ◌*◌, ◌/◌, ◌%◌, ◌^◌, ◌<◌, ◌≤◌, Bool, true, false, ◌&&◌, ◌||◌, List, [], ◌∷◌, ◌++◌, length, get_or, set, refl, sym, ◌∙◌, ap, subst, append_assoc, length-append, arith, nat_lt, nat_eq}
+use Rattle.std.specs.Prelude.{ℤ, pos, ◌+ℤ◌, ◌-ℤ◌, int_div, unsigned_abs, nat_le, min, slice_index_or, IsTrue, replicate}
 use Rattle.std.proofs.lemmas.Bool.Decides.{nat_tests}
 use Rattle.std.proofs.lemmas.Int.{ints}
 use Rattle.std.proofs.lemmas.List.{append-nil, get_or-set_same, get_or-set_other, length-set}
@@ -10,22 +10,20 @@ use Rattle.band_plan.specs.declared.symbols.BandSettings.{BandSettings}
 use Rattle.band_plan.specs.declared.symbols.Node.{Node}
 use Rattle.band_plan.specs.Angles.{lesser, greater}
 use Rattle.band_plan.specs.Channels.{two_script, stereo_script, channel_script, IsBand}
-use Rattle.band_plan.specs.Frames.{IsFrame}
 use Rattle.band_plan.specs.Parts.{Halves}
-use Rattle.band_plan.specs.Plans.{Planned, pulses_of, sum_below, balance_of, amount_of, left_of, share_by, share_of, frame_blocks, band_of, is_two, half_share, band_script, planned_at, one_band, bands_script, all_nodes, amount_at, IsChange, AreSettings, CodedBand}
-use Rattle.band_plan.specs.Trees.{Tree, nodes_of, Coded}
+use Rattle.band_plan.specs.Plans.{Planned, pulses_of, sum_below, balance_of, amount_of, left_of, share_by, share_of, frame_blocks, band_of, is_two, half_share, band_script, planned_at, one_band, bands_script, all_nodes, amount_at, CodedBand}
+use Rattle.band_plan.specs.Trees.{nodes_of, Coded}
 use Rattle.celt_base.specs.Ends.{is_band_end}
 use Rattle.celt_base.specs.declared.kind.Kind.{Kind}
 use Rattle.celt_base.specs.declared.state.Allocation.{Allocation}
 use Rattle.celt_base.specs.Paces.{tell_frac_of}
 use Rattle.celt_base.specs.WalkCalls.{CoderCalls, ChooserCalls}
-use Rattle.celt_base.specs.WalkScripts.{Script, Done, Look, and_then, each}
+use Rattle.celt_base.specs.WalkScripts.{Script, each}
 use Rattle.celt_base.specs.Walks.{Walked}
-use Rattle.celt_base.proofs.WalkSteps.{Going, start, look, walk, walk_last, end, no_walk, when_true, when_false}
+use Rattle.celt_base.proofs.WalkSteps.{Going, start, look, walk, walk_last, end, when_true, when_false}
 use Rattle.celt_tables.specs.Tables.{width_of}
 use Rattle.std.proofs.lemmas.Bool.{and_parts}
-use Rattle.celt_base.proofs.Below.{all_below, at_each, at_most}
-use Rattle.band_plan.proofs.PartSteps.{coded_as}
+use Rattle.celt_base.proofs.Below.{all_below, at_each}
 
 -- which sizes can be halved as often as their level says
 can_halve : ℕ → ℕ → Bool

@@ -1,7 +1,7 @@
 -- The walks of an angle's questions.
-use Rattle.std.proofs.Common.{◌≡◌, ◌≢◌, ℕ, zero, suc, ◌+◌, ◌-◌, ◌*◌, ◌/◌, ◌%◌, ◌^◌, ◌<◌, ◌≤◌, Bool, true, false, not, ◌&&◌, nat_eq, refl, sym, ◌∙◌, ap, subst, arith, nat_lt}
-use Rattle.std.specs.Prelude.{ℤ, pos, negsuc, ◌+ℤ◌, ◌-ℤ◌, unsigned_abs, nat_le, FitsSigned}
-use Rattle.std.specs.Int.{w64, w32}
+use Rattle.std.proofs.Common.{◌≡◌, ◌≢◌, ℕ, ◌+◌, ◌*◌, ◌/◌, ◌<◌, ◌≤◌, Bool, true, false, nat_eq, refl, sym, ◌∙◌, ap, subst, arith, nat_lt}
+use Rattle.std.specs.Prelude.{ℤ, pos, negsuc, ◌-ℤ◌, unsigned_abs, nat_le, FitsSigned}
+use Rattle.std.specs.Int.{w64}
 use Rattle.std.proofs.lemmas.Bool.Decides.{nat_tests}
 use Rattle.std.proofs.lemmas.Int.{ints, fits_signed_from_abs}
 use Rattle.band_plan.specs.declared.orders.Theta.{Theta}
@@ -14,11 +14,10 @@ use Rattle.celt_base.specs.declared.coder.Place.TheVariants.{Theta as AtTheta}
 use Rattle.celt_base.specs.declared.question.Question.{Question}
 use Rattle.celt_base.specs.declared.question.Question.TheVariants.{Uniform, Triangle}
 use Rattle.std.proofs.lemmas.Nat.{le-div, div_below}
-use Rattle.std.proofs.Math.Nat.{div-eq_of_lt-le}
 use Rattle.celt_base.specs.Paces.{tell_frac_of}
 use Rattle.celt_base.specs.Questions.{IsBelow, IsEven}
 use Rattle.celt_base.specs.WalkCalls.{CoderCalls, ChooserCalls}
-use Rattle.celt_base.specs.WalkScripts.{Done, and_then, asks_at}
+use Rattle.celt_base.specs.WalkScripts.{asks_at}
 use Rattle.celt_base.specs.Walks.{Walked}
 use Rattle.celt_base.proofs.WalkSteps.{start, look, walk, end, no_walk, when_true, when_false}
 

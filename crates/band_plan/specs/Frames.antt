@@ -1,5 +1,5 @@
 -- What the walk of a frame's bands rests on.
-use Rattle.std.specs.Prelude.{◌≡◌, ℕ, ◌<◌, ◌≤◌, ◌^◌, ℤ, unsigned_abs}
+use Rattle.std.specs.Prelude.{ℕ, ◌<◌, ◌≤◌, ◌^◌, ℤ, unsigned_abs}
 use Rattle.celt_base.specs.declared.kind.Kind.{Kind}
 use Rattle.celt_base.specs.declared.state.Allocation.{Allocation}
 use Rattle.band_plan.specs.declared.symbols.BandSettings.{BandSettings}

@@ -1,5 +1,5 @@
 -- The shape of a band's tree: what the shapes of the band rest on (RFC 6716, section 4.3.4).
-use Rattle.std.specs.Prelude.{◌≡◌, ◌≢◌, ℕ, zero, suc, ◌+◌, ◌*◌, ◌/◌, ◌%◌, ◌^◌, ◌<◌, ◌≤◌, Bool, true, false, nat_eq, List, [], ◌∷◌, length, ⊤}
+use Rattle.std.specs.Prelude.{◌≡◌, ◌≢◌, ℕ, zero, suc, ◌+◌, ◌/◌, ◌%◌, ◌^◌, ◌<◌, ◌≤◌, Bool, true, false, nat_eq, List, [], ◌∷◌, length, ⊤}
 use Rattle.band_plan.specs.declared.channels.Band.{Band}
 use Rattle.band_plan.specs.declared.orders.Theta.{Theta}
 use Rattle.band_plan.specs.declared.symbols.BandSettings.{BandSettings}

@@ -14,5 +14,5 @@ mod symbols;
 mod thetas;
 
 pub use laws::{law_changes, law_nodes, law_parts, law_questions, law_trees};
-pub use plans::walk_bands;
+pub use plans::{blocks, walk_bands};
 pub use symbols::{BandSettings, BandSymbols, Node};

@@ -50,9 +50,9 @@ fn size(kind: Kind) -> u32
     }
 }
 
-// The blocks of a frame.
+/// How many blocks a frame has: 2^lm in a transient, else one.
 #[tactic(auto, unfolding(crate::specs::Plans::frame_blocks))]
-fn blocks(kind: Kind, transient: bool) -> u32
+pub fn blocks(kind: Kind, transient: bool) -> u32
     ensures value { result ≡ frame_blocks kind transient }
     ensures most { result ≤ 8 }
     ensures some { 1 ≤ result }
