@@ -1,5 +1,6 @@
 pub mod Ends
 pub mod Energies
+pub mod Halves
 pub mod Intervals
 pub mod Kinds
 pub mod Memory
