@@ -1,6 +1,7 @@
 pub mod Below
 pub mod Causes
 pub mod Fillings
+pub mod Halving
 pub mod Narrowing
 pub mod PaceSteps
 pub mod Rows
