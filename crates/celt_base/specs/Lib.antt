@@ -14,5 +14,4 @@ pub mod WalkCalls
 pub mod WalkOrders
 pub mod WalkScripts
 pub mod WalkTables
-pub mod WalkThree
 pub mod Walks

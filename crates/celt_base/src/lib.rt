@@ -6,6 +6,7 @@ pub mod coder;
 pub mod halves;
 #[cfg(test)]
 mod halves_tests;
+pub mod held;
 pub mod kind;
 pub mod laws;
 pub mod memory;
