@@ -20,7 +20,7 @@ use Rattle.celt_base.proofs.WalkOrders.{most_more, most_then, most_each, most_ta
 use Rattle.band_energy.specs.declared.energy.Energy.{Energy}
 use Rattle.band_energy.specs.EnergyScripts.{question_for, value_script, coarse_at, coarse_script, bits_script, fine_at, fine_script, is_same, is_in_round, bands_in, is_reached, last_bit, last_at, round_script, rounds_script, rows_either, last_script}
 use Rattle.band_energy.specs.EnergyValues.{kept_of, energy_by, energy_at, energies_of, carried, energy_from, fine_of, last_of}
-use Rattle.band_energy.proofs.EnergyTables.{end_most}
+use Rattle.celt_base.proofs.BandEnds.{end_most}
 use Rattle.band_energy.proofs.LastRounds.{bands_rise, both_rounds}
 
 pub entries : (kind : Kind) (intra : Bool) (a : Allocation) (e : Energy) (old : List (List ℤ)) (channel band : ℕ)
@@ -74,7 +74,7 @@ pub intra_same : (kind : Kind) (a : Allocation) (e : Energy) (old other : List (
     ≡ get_or (get_or (energies_of kind true a e other) channel []) band (pos 0)
 intra_same kind a e old other channel band below inside =
     let two = kind.two_channels in
-    let most = end_most kind.end kind.ended in
+    let most = end_most kind in
     entries kind true a e old channel band (omega (arith, two, below)) (omega (arith, most, inside))
     ∙ coded kind a e old channel band below inside
     ∙ same_energy 4915 a.fine e channel (get_or old channel []) (get_or other channel []) band
@@ -104,7 +104,7 @@ most_last band channel = most_then (asks_at (Last band channel) (Raw 1)) (λ ans
 kind_most : (kind : Kind) → kind.end * (kind.channels * 1) ≤ 42
 kind_most kind =
     let two = kind.two_channels in
-    mul-le kind.end (kind.channels * 1) 21 2 (end_most kind.end kind.ended) (omega (arith, two))
+    mul-le kind.end (kind.channels * 1) 21 2 (end_most kind) (omega (arith, two))
 
 pub coarse_most : (kind : Kind) (intra : Bool) (budget : ℕ) → AtMost 42 (coarse_script kind intra budget)
 unfolding coarse_script
@@ -238,7 +238,7 @@ last_most kind a budget = λ pace.
     most_rounds kind a left 42
     (few_bits kind.channels kind.end (reached_below kind.channels a false left kind.end) (reached_below kind.channels a true rest kind.end)
     (bands_in a false kind.end) (bands_in a true kind.end) kind.two_channels
-    (reached_few kind.channels a false left kind.end).0 (reached_few kind.channels a true rest kind.end).0 (both_rounds a kind.end) (end_most kind.end kind.ended))
+    (reached_few kind.channels a false left kind.end).0 (reached_few kind.channels a true rest kind.end).0 (both_rounds a kind.end) (end_most kind))
 
 within : (channels left first second round : ℕ) → 1 ≤ channels → first ≤ round → channels * first ≤ left → channels * second ≤ left - channels * round
     → channels * first + channels * second ≤ left

@@ -12,6 +12,7 @@ use Rattle.bit_allocation.specs.Amounts.{raised, tilted, bit_each, size_of, coef
 use Rattle.bit_allocation.specs.Requests.{IsTrim, IsBoost, quantum_of}
 use Rattle.celt_base.specs.declared.kind.Kind.{Kind}
 use Rattle.celt_base.proofs.Below.{at_each, less, at_most}
+use Rattle.celt_base.proofs.BandEnds.{end_most}
 use Rattle.celt_tables.proofs.Entries.{caps_most, allocation_rises, edges_rise}
 use Rattle.celt_tables.specs.Tables.{caps_entry, allocation_entry, width_of}
 
@@ -106,13 +107,6 @@ most_of_most kind band inside =
     most_most (caps_entry (2 * kind.lm + kind.channels - 1) band) (coefficients_of kind band)
     (caps_most (2 * kind.lm + kind.channels - 1) band (omega (arith, kind.sized, kind.two_channels)) inside)
     (omega (arith, p))
-
--- a kind has at most 21 bands
-pub end_most : (kind : Kind) → kind.end ≤ 21
-end_most kind = ended kind.end kind.ended
-  where
-    ended : (n : ℕ) → IsTrue (is_band_end n) → n ≤ 21
-    ended n e = grind (arith, nat_tests)
 
 pub band_inside : (kind : Kind) (band : ℕ) → band < kind.end → band < 21
 band_inside kind band below = let e = end_most kind in omega (arith, e)

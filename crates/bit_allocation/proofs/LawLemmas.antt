@@ -21,7 +21,7 @@ use Rattle.bit_allocation.specs.Scripts.{choice_now, left_of, offer_of, turn_scr
 use Rattle.bit_allocation.specs.Shares.{balance_of, split_at, skipped_split, by_bands, allocation_of}
 use Rattle.bit_allocation.specs.Totals.{given_of, taken_of, IsBlank}
 use Rattle.bit_allocation.proofs.AllocationLemmas.{allocation_is, request_with, band_skipped, valid_for}
-use Rattle.bit_allocation.proofs.AmountLemmas.{end_most}
+use Rattle.celt_base.proofs.BandEnds.{end_most}
 use Rattle.bit_allocation.proofs.CountLemmas.{sum_same}
 use Rattle.bit_allocation.proofs.PlanLemmas.{plan_is, whole_is}
 use Rattle.bit_allocation.proofs.SkipSteps.{IsOn, on_start, on_left, on_next, on_end}
@@ -36,20 +36,7 @@ use Rattle.celt_base.specs.Questions.{IsBelow}
 use Rattle.celt_base.specs.States.{IsAllocation}
 use Rattle.celt_base.specs.WalkOrders.{AtMost, MayGive}
 use Rattle.celt_base.specs.WalkScripts.{Script, Done, Look, Ask, Begin, and_then, asks_at, asks_bit}
-use Rattle.celt_base.proofs.WalkOrders.{most_more, most_then, most_answer, most_bit}
-
--- the value of the first of two joined scripts
-record Gave {A B : Type 0} (script : Script A) (follow : A → Script B) (last : B) : Type 0 where
-  value : A
-  first : MayGive script value
-  second : MayGive (follow value) last
-
-gave : {A B : Type 0} (script : Script A) (follow : A → Script B) (last : B) → MayGive (and_then script follow) last → Gave script follow last
-gave (Done value) follow last m = record { value = value; first = refl; second = m }
-gave (Look look) follow last m = let g = gave (look m.0) follow last m.1 in record { value = g.value; first = (m.0, g.first); second = g.second }
-gave (Begin at script) follow last m = let g = gave script follow last m in record { value = g.value; first = g.first; second = g.second }
-gave (Ask at question next) follow last m =
-    let g = gave (next m.0) follow last m.2 in record { value = g.value; first = (m.0, m.1, g.first); second = g.second }
+use Rattle.celt_base.proofs.WalkOrders.{gave, most_more, most_then, most_answer, most_bit}
 
 -- two greatest numbers are one
 pub one_greatest : (test : ℕ → Bool) (most m n : ℕ) → IsGreatest test most m → IsGreatest test most n → m ≡ n

@@ -1,6 +1,5 @@
 pub mod AmountLemmas
 pub mod CountLemmas
-pub mod Fronts
 pub mod SearchLemmas
 pub mod PlanLemmas
 pub mod SplitLemmas

@@ -14,9 +14,10 @@ use Rattle.bit_allocation.specs.Counts.{sum_below, count_of, counts_of, boosted_
 use Rattle.bit_allocation.specs.Facts.{IsPlan, whole_of}
 use Rattle.bit_allocation.specs.Plans.{choice_bits, skip_reserve, choice_reserve, dual_reserve, reserves_of, boosted_top, bands_to, plan_of}
 use Rattle.bit_allocation.specs.Requests.{IsRequest}
-use Rattle.bit_allocation.proofs.AmountLemmas.{end_most, end_least, band_inside, usual_is}
+use Rattle.bit_allocation.proofs.AmountLemmas.{end_least, band_inside, usual_is}
+use Rattle.celt_base.proofs.BandEnds.{end_most}
 use Rattle.bit_allocation.proofs.CountLemmas.{sum_same, counts_same, below_end, from_end}
-use Rattle.bit_allocation.proofs.Fronts.{front_all}
+use Rattle.celt_base.proofs.Fronts.{front_all}
 use Rattle.bit_allocation.proofs.SearchLemmas.{quality_passes, step_passes, no_step}
 use Rattle.celt_base.proofs.Below.{at_each}
 use Rattle.celt_tables.specs.Tables.{allocation_entry}

@@ -14,7 +14,7 @@ use Rattle.bit_allocation.specs.Facts.{IsPlan, IsTurn, IsSkipped}
 use Rattle.bit_allocation.specs.Plans.{choice_bits}
 use Rattle.bit_allocation.specs.Scripts.{choice_now, left_of, offer_of, turn_script, after_turn, skipped, skip_script}
 use Rattle.bit_allocation.specs.Shares.{even_of, beyond_of}
-use Rattle.bit_allocation.proofs.AmountLemmas.{end_most}
+use Rattle.celt_base.proofs.BandEnds.{end_most}
 use Rattle.bit_allocation.proofs.CountLemmas.{sum_same}
 use Rattle.celt_base.specs.declared.coder.Place.TheVariants.{Skip}
 use Rattle.celt_base.specs.declared.kind.Kind.{Kind}

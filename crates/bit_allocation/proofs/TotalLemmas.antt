@@ -14,7 +14,8 @@ use Rattle.bit_allocation.specs.Counts.{sum_below}
 use Rattle.bit_allocation.specs.Facts.{IsSkipped, whole_of}
 use Rattle.bit_allocation.specs.Shares.{even_of, beyond_of, share_of, numbers_of, raised_bits, wide_split, single_split, topped, split_of, skipped_split, left_after, band_split, balance_of, split_at}
 use Rattle.bit_allocation.specs.Totals.{shared_of, taken_of}
-use Rattle.bit_allocation.proofs.AmountLemmas.{most_of_least, end_most}
+use Rattle.bit_allocation.proofs.AmountLemmas.{most_of_least}
+use Rattle.celt_base.proofs.BandEnds.{end_most}
 use Rattle.bit_allocation.proofs.CountLemmas.{sum_same, sum_next, sum_start, rises_to, below_end, from_end}
 use Rattle.bit_allocation.proofs.SplitLemmas.{one_or_two, fine_within, fine_most, edges_to, one_split, many_split}
 use Rattle.celt_base.specs.declared.kind.Kind.{Kind}

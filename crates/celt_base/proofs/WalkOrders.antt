@@ -155,6 +155,19 @@ may_give (looked {pace = pace} x) = (pace, may_give x)
 may_give (begun x) = may_give x
 may_give (asked {answer = answer} valid is_answer x) = (answer, is_answer, may_give x)
 
+-- the value of the first of two joined scripts
+pub record Gave {A B : Type 0} (script : Script A) (follow : A → Script B) (last : B) : Type 0 where
+  pub value : A
+  pub first : MayGive script value
+  pub second : MayGive (follow value) last
+
+pub gave : {A B : Type 0} (script : Script A) (follow : A → Script B) (last : B) → MayGive (and_then script follow) last → Gave script follow last
+gave (Done value) follow last m = record { value = value; first = refl; second = m }
+gave (Look look) follow last m = let g = gave (look m.0) follow last m.1 in record { value = g.value; first = (m.0, g.first); second = g.second }
+gave (Begin at script) follow last m = let g = gave script follow last m in record { value = g.value; first = g.first; second = g.second }
+gave (Ask at question next) follow last m =
+    let g = gave (next m.0) follow last m.2 in record { value = g.value; first = (m.0, m.1, g.first); second = g.second }
+
 pub most_more : {A : Type 0} (script : Script A) (m n : ℕ) → m ≤ n → AtMost m script → AtMost n script
 most_more (Done value) m n le most = tt
 most_more (Look look) m n le most = λ pace. most_more (look pace) m n le (most pace)

@@ -1,5 +1,6 @@
 pub mod Ends
 pub mod Energies
+pub mod Halves
 pub mod Intervals
 pub mod Kinds
 pub mod Memory
@@ -13,5 +14,4 @@ pub mod WalkCalls
 pub mod WalkOrders
 pub mod WalkScripts
 pub mod WalkTables
-pub mod WalkThree
 pub mod Walks

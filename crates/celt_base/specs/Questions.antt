@@ -100,7 +100,7 @@ triangle_row most =
 abbrev pub IsEven : ℕ → Type 0
 IsEven most = (most % 2 ≡ 0) × (2 ≤ most) × (most ≤ 256)
 
--- The length of 0 leaves one for each of 32 more, and no length is above the one before.
+-- The length of 0 leaves one for each of 32 more, and from -1 on no length is above the one before.
 abbrev pub IsLaplace : ℕ → ℕ → Type 0
 IsLaplace fs decay = (1 ≤ fs) × (fs ≤ 2 ^ 15 - 32) × (decay ≤ 2 ^ 14)
 
@@ -127,6 +127,20 @@ IsAnswer (Laplace fs decay) answer = start (laplace_row fs decay) (place_of answ
 IsAnswer (Step most) answer = IsBelow (most + 1) answer
 IsAnswer (Triangle most) answer = IsBelow (most + 1) answer
 IsAnswer (Raw count) answer = IsBelow (2 ^ count) answer
+
+-- How many answers a question has, where they are the numbers from 0 on. Those of Laplace are signed.
+abbrev pub limit_of : Question → ℕ
+limit_of (Bit p) = 2
+limit_of (Table table) = answers_of table
+limit_of (Uniform limit) = limit
+limit_of (Laplace fs decay) = 0
+limit_of (Step most) = most + 1
+limit_of (Triangle most) = most + 1
+limit_of (Raw count) = 2 ^ count
+
+abbrev pub IsCounted : Question → Type 0
+IsCounted (Laplace fs decay) = ⊥
+IsCounted question = ⊤
 
 -- The part of a row's answer.
 abbrev pub part_steps : Row → ℤ → List Symbol

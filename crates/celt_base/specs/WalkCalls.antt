@@ -1,5 +1,5 @@
 -- What a coder and a chooser do at each of their calls, and the calls that a question makes.
-use Rattle.std.specs.Prelude.{◌≡◌, ℕ, zero, suc, ◌+◌, ◌*◌, ◌^◌, ◌<◌, ◌≤◌, ℤ, pos, negsuc}
+use Rattle.std.specs.Prelude.{◌≡◌, ◌≢◌, ℕ, zero, suc, ◌+◌, ◌*◌, ◌^◌, ◌<◌, ◌≤◌, ℤ, pos, negsuc, ◌-ℤ◌, unsigned_abs}
 use Rattle.celt_base.specs.declared.coder.Enter.{Enter}
 use Rattle.celt_base.specs.declared.coder.Mute.{Mute}
 use Rattle.celt_base.specs.declared.coder.Place.{Place}
@@ -71,6 +71,15 @@ unfoldable pub coarse_answer : Question → ℤ → ℤ
 coarse_answer (Table table) wanted = small_answer wanted
 coarse_answer (Bit p) wanted = bit_answer wanted
 coarse_answer question wanted = wanted
+
+abbrev pub distance : ℤ → ℤ → ℕ
+distance a b = unsigned_abs (a -ℤ b)
+
+-- The answer's value is nearer to the wanted one than that of any other answer: no two values are as near.
+pub record IsNearestValue (question : Question) (wanted answer : ℤ) : Type 0 where
+  pub is_answer : IsAnswer question answer
+  pub nearer : (other : ℤ) → IsAnswer question other → other ≢ answer
+      → distance (coarse_value question answer) wanted < distance (coarse_value question other) wanted
 
 -- At a coarse energy a chooser speaks in values, at every other place in answers. This is what it is told of an answer,
 -- and the answer that it means.

@@ -47,6 +47,10 @@ AtMost n (Begin at script) = AtMost n script
 AtMost zero (Ask at question follow) = ⊥
 AtMost (suc n) (Ask at question follow) = (answer : ℤ) → IsAnswer question answer → AtMost n (follow answer)
 
+-- The same as a record, from which the script is found.
+pub record IsMost {A : Type 0} (n : ℕ) (script : Script A) : Type 0 where
+  pub is : AtMost n script
+
 -- Some answers, at some pace, make the script come to this value.
 abbrev pub MayGive : {A : Type 0} → Script A → A → Type 0
 MayGive (Done value) last = last ≡ value

@@ -1,11 +1,11 @@
 -- Scripts: which questions are asked, at which places, and what comes of the answers. A script has no coder and no
 -- bytes; where the next question depends on the bits used so far, it looks at the pace.
-use Rattle.std.specs.Prelude.{ℕ, zero, suc, ◌+◌, ℤ, pos, Bool, true, false, List, [], ◌∷◌, ◌++◌}
+use Rattle.std.specs.Prelude.{ℕ, zero, suc, ◌+◌, nat_le, ℤ, pos, unsigned_abs, Bool, true, false, if◌then◌else◌, List, [], ◌∷◌, ◌++◌}
 use Rattle.celt_base.specs.declared.coder.Enter.{Enter}
 use Rattle.celt_base.specs.declared.coder.Place.{Place}
 use Rattle.celt_base.specs.declared.question.Question.{Question}
 use Rattle.celt_base.specs.declared.question.Question.TheVariants.{Bit}
-use Rattle.celt_base.specs.Paces.{Pace}
+use Rattle.celt_base.specs.Paces.{Pace, tell_of}
 use Rattle.celt_base.specs.WalkCalls.{heard}
 
 -- A value; or a look at the pace; or a question at a place, and what follows each answer; or a band of one channel is
@@ -36,6 +36,14 @@ is_one answer = false
 
 unfoldable pub asks_bit : Place → ℕ → Script Bool
 asks_bit at p = and_then (asks_at at (Bit p)) (λ answer. Done (is_one answer))
+
+-- One question whose answers are the numbers from 0 on.
+unfoldable pub asks_number : Place → Question → Script ℕ
+asks_number at question = and_then (asks_at at question) (λ answer. Done (unsigned_abs answer))
+
+-- Whether a bit is 1, which is asked where at least `cost` bits are left of a budget of bits; elsewhere it is not.
+unfoldable pub bit_within : Place → ℕ → ℕ → ℕ → Script Bool
+bit_within at p cost budget = Look (λ pace. if nat_le (tell_of pace + cost) budget then asks_bit at p else Done false)
 
 -- The scripts of the next `left` places in order, each given its place and the values before it.
 abbrev pub each : {A : Type 0} → (ℕ → List A → Script A) → ℕ → ℕ → List A → Script (List A)

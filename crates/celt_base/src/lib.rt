@@ -3,6 +3,10 @@
 #![tactic(auto)]
 
 pub mod coder;
+pub mod halves;
+#[cfg(test)]
+mod halves_tests;
+pub mod held;
 pub mod kind;
 pub mod laws;
 pub mod memory;

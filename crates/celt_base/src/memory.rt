@@ -1,9 +1,9 @@
 //! A source and a sink in memory. They tell their bytes, and fail at the calls that they were told to.
-ghost use Rattle.std.specs.Prelude.{◌≡◌, ◌+◌, ◌-◌, ◌*◌, ◌^◌, ◌<◌, ◌≤◌, ◌↔◌, ℕ, List, [], ◌++◌, length, min, IsErr, Some, drop, take, get_or, vec_len};
+ghost use Rattle.std.specs.Prelude.{◌≡◌, ◌+◌, ◌-◌, ◌*◌, ◌/◌, ◌^◌, ◌<◌, ◌≤◌, ◌↔◌, ℕ, List, [], ◌++◌, length, map, min, IsErr, Some, drop, take, get_or, vec_len, vec_capacity};
 ghost use Rattle.std.specs.Io.{ReadsAtMost};
 ghost use Rattle.std.specs.Io.KnownBytes.{ReadConsumes};
 ghost use Rattle.celt_base.specs.Outside.{HasCause, Rose, WritesAll};
-ghost use Rattle.celt_base.specs.Memory.{IsNamed, next_call, joined, unread, IsUnreadPlace};
+ghost use Rattle.celt_base.specs.Memory.{IsNamed, next_call, joined, unread, unread_pieces, some_of, GivesPiece, IsUnreadPlace, AppendsHalf};
 
 use crate::outside::{Failed, Sink, Source};
 use std::alloc::Global;
@@ -70,12 +70,13 @@ pub struct MemSource {
 }
 
 impl MemSource {
-    ghost use Rattle.celt_base.specs.MemorySides.{unread_of, source_names, source_call, source_faults};
+    ghost use Rattle.celt_base.specs.MemorySides.{unread_of, pieces_of, source_names, source_call, source_faults};
 
     /// A source that tells the joined pieces. Exactly the calls with these numbers, counted from 0,
     /// fail. It takes no memory.
     pub fn new(pieces: Vec<Vec<u8>>, failing: Vec<u64>) -> MemSource
         ensures bytes { unread_of result ≡ joined pieces.items }
+        ensures pieces { pieces_of result ≡ some_of (map (λ piece. piece.items) pieces.items) }
         ensures names { source_names result ≡ failing.items }
         ensures call { source_call result ≡ Some 0 }
         ensures faults { source_faults result ≡ 0 }
@@ -92,6 +93,7 @@ impl MemSource {
 /// The place of the first unread byte. Pieces that are read to their end are passed over.
 fn unread_place(pieces: &[Vec<u8>], mut piece: usize, mut start: usize) -> (usize, usize)
     ensures same { unread (drop result.0 pieces.now) result.1 ≡ unread (drop piece pieces.now) start }
+    ensures pieces { unread_pieces (drop result.0 pieces.now) result.1 ≡ unread_pieces (drop piece pieces.now) start }
     ensures inside { IsUnreadPlace (drop result.0 pieces.now) result.1 }
 {
     while piece < pieces.len() && start >= pieces[piece].len() {
@@ -112,16 +114,18 @@ fn copy_front(bytes: &[u8], buf: &mut [u8]) -> usize
 }
 
 impl Source for MemSource {
-    ghost use Rattle.celt_base.specs.MemorySides.{unread_of, source_names, source_call, source_faults};
+    ghost use Rattle.celt_base.specs.MemorySides.{unread_of, pieces_of, source_names, source_call, source_faults};
 
     ghost left = { λ s. Some (unread_of s) };
 
     ghost faults = { source_faults };
 
+    /// Gives the next unread bytes of one piece, as many as the buffer has place for.
     fn read(&mut self, buf: &mut [u8]) -> Result<usize, Failed>
         requires { 0 < length buf.old }
         ensures bound { ReadsAtMost result buf.new }
         ensures bytes { ReadConsumes (Some (unread_of self.old)) (Some (unread_of self.new)) result buf.new }
+        ensures pieces { GivesPiece (pieces_of self.old) (pieces_of self.new) (length buf.old) result }
         ensures cause { HasCause (source_faults self.old) (source_faults self.new) result }
         ensures fails { IsErr result ↔ IsNamed (source_names self.old) (source_call self.old) }
         ensures names { source_names self.new ≡ source_names self.old }
@@ -153,8 +157,8 @@ pub struct MemSink {
 impl MemSink {
     ghost use Rattle.celt_base.specs.MemorySides.{held_of, sink_names, sink_call, sink_faults};
 
-    /// An empty sink. Each call with one of these numbers, counted from 0, fails; any other fails only
-    /// for want of memory.
+    /// An empty sink. Each call with one of these numbers, counted from 0, fails, and appends the first half of the
+    /// bytes, rounded down, or nothing where memory is refused. Any other fails only for want of memory.
     pub fn new(alloc: Global, failing: Vec<u64>) -> MemSink
         ensures bytes { held_of result ≡ [] }
         ensures names { sink_names result ≡ failing.items }
@@ -175,8 +179,16 @@ impl MemSink {
     }
 }
 
+/// Appends the first half of the bytes, rounded down, or nothing where memory is refused.
+fn append_half(held: &mut Vec<u8>, bytes: &[u8])
+    ensures { AppendsHalf (vec_capacity held.old) held.old.items held.new.items bytes.now }
+{
+    let (half, _) = bytes.split_at(bytes.len() / 2);
+    let _ = held.extend_from_slice(half);
+}
+
 impl Sink for MemSink {
-    ghost use Rattle.celt_base.specs.MemorySides.{held_of, sink_names, sink_call, sink_faults};
+    ghost use Rattle.celt_base.specs.MemorySides.{held_of, room_of, sink_names, sink_call, sink_faults};
 
     ghost held = { λ s. Some (held_of s) };
 
@@ -186,11 +198,15 @@ impl Sink for MemSink {
         ensures bytes { WritesAll (Some (held_of self.old)) (Some (held_of self.new)) result bytes.now }
         ensures cause { HasCause (sink_faults self.old) (sink_faults self.new) result }
         ensures fails { IsNamed (sink_names self.old) (sink_call self.old) → IsErr result }
-        ensures failed_stays { IsErr result → held_of self.new ≡ held_of self.old }
+        ensures half { IsNamed (sink_names self.old) (sink_call self.old)
+            → AppendsHalf (room_of self.old) (held_of self.old) (held_of self.new) bytes.now }
+        ensures others_stay { (IsNamed (sink_names self.old) (sink_call self.old) → ⊥) → IsErr result
+            → held_of self.new ≡ held_of self.old }
         ensures names { sink_names self.new ≡ sink_names self.old }
         ensures call { sink_call self.new ≡ next_call (sink_call self.old) }
     {
         let Ok(()) = self.failures.enter() else {
+            append_half(&mut self.bytes, bytes);
             return Err(Failed);
         };
         match self.bytes.extend_from_slice(bytes) {

@@ -43,8 +43,8 @@ impl Status {
     }
 }
 
-/// A fault of the input, and where it is: the number of a page (from 0), of an audio packet (from 0)
-/// or of a byte (from 0), as its name says.
+/// A fault of the input, and where it is: the number of a page, of an audio packet, of a byte or of a line of text, each
+/// from 0, as its name says.
 #[derive(Clone, Copy, Debug, PartialEq, Eq)]
 pub struct Fault {
     pub name: FaultName,
@@ -101,6 +101,16 @@ pub enum FaultName {
     NoData,
     /// A WAVE file ends before its declared size (byte).
     DataTruncated,
+    /// A link of a chained stream has another number of channels than its first link (page).
+    ChannelChange,
+    /// A chained stream has no link of the number that is to be cut out (page).
+    NoLink,
+    /// A line of a text of symbols is none that may stand there (line).
+    BadText,
+    /// The symbols of a frame in a text take more bits than the frame has (line).
+    TextOverrun,
+    /// A text of symbols ends inside a line or inside a frame (line).
+    TextTruncated,
     /// The input is of a form that is not built yet (page or byte).
     NotBuilt,
 }

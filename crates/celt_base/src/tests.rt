@@ -84,14 +84,17 @@ fn memory_gives_its_pieces(rt: HostRuntime) -> Result<(), std::alloc::AllocError
     Ok(())
 }
 
+// The named calls fail: each appends the first half of its bytes, rounded down.
 #[test]
 fn memory_keeps_what_is_written(rt: HostRuntime) -> Result<(), std::alloc::AllocError> {
     let alloc = rt.alloc();
-    let mut sink = MemSink::new(alloc, vec![in alloc; 1u64]?);
+    let mut sink = MemSink::new(alloc, Vec::from_slice(alloc, &[1u64, 2, 3])?);
     assert_eq!(rt; write_to(&mut sink, &[1, 2]), Ok(()));
-    assert_eq!(rt; write_to(&mut sink, &[3]), Err(Failed));
-    assert_eq!(rt; write_to(&mut sink, &[4, 5]), Ok(()));
-    assert_eq!(rt; sink.bytes(), &[1u8, 2, 4, 5][..]);
+    assert_eq!(rt; write_to(&mut sink, &[3, 4, 5]), Err(Failed));
+    assert_eq!(rt; write_to(&mut sink, &[6]), Err(Failed));
+    assert_eq!(rt; write_to(&mut sink, &[7, 8, 9, 10]), Err(Failed));
+    assert_eq!(rt; write_to(&mut sink, &[11, 12]), Ok(()));
+    assert_eq!(rt; sink.bytes(), &[1u8, 2, 3, 7, 8, 11, 12][..]);
     Ok(())
 }
 

@@ -1,10 +1,9 @@
 //! The calls that ask at a place: `want` of the chooser, `ask` of the coder, `told` of the chooser. Every walk of a
 //! frame's questions is made of them.
-ghost use Rattle.std.specs.Prelude.{◌≡◌, ◌+◌, ◌<◌, ◌≤◌};
-ghost use Rattle.celt_base.specs.Questions.{IsValid, IsAnswer};
+ghost use Rattle.std.specs.Prelude.{◌≡◌, ◌+◌, ◌^◌, ◌<◌, ◌≤◌};
+ghost use Rattle.celt_base.specs.Questions.{IsValid, IsAnswer, IsCounted, limit_of};
 ghost use Rattle.celt_base.specs.WalkCalls.{heard, meant, small_value, small_answer, bit_value, bit_answer, coarse_value, coarse_answer, IsHeard};
-ghost use Rattle.celt_base.specs.WalkScripts.{asks_at, asks_value_at, asks_bit};
-ghost use Rattle.celt_base.specs.WalkThree.{first_script, AsksThree};
+ghost use Rattle.celt_base.specs.WalkScripts.{asks_at, asks_value_at, asks_bit, asks_number, bit_within};
 ghost use Rattle.celt_base.specs.Walks.{Walked};
 
 use crate::coder::{Chooser, Coder, Place};
@@ -124,45 +123,41 @@ pub fn ask_bit<C: Coder, H: Chooser>(coder: &mut C, chooser: &mut H, at: Place, 
     ask_at(coder, chooser, at, Question::Bit(p)) == 1
 }
 
-/// The first energy of a frame.
-#[derive(Clone, Copy, Debug, PartialEq, Eq)]
-pub struct FirstEnergy {
-    /// Whether it is coded without the frame before.
-    pub intra: bool,
-    /// The value of the coarse energy.
-    pub coarse: i64,
-    /// The last bit.
-    pub last: i64,
-}
-
-/// Asks three questions, each of a kind of its own: a walk in small, as every walk of a frame's questions is.
-pub fn ask_first_energy<C: Coder, H: Chooser>(
+/// Asks a question whose answers are the numbers from 0 on.
+pub fn ask_number<C: Coder, H: Chooser>(
     coder: &mut C,
     chooser: &mut H,
-    coarse_question: Question,
-    last_question: Question,
-) -> FirstEnergy
-    requires coarse { IsValid coarse_question }
-    requires last { IsValid last_question }
-    requires few { C.calls.count coder.old + 3 ≤ 4096 }
-    ensures walked { Walked C.calls H.calls (first_script coarse_question last_question) result coder.old chooser.old coder.new chooser.new }
-    ensures list { AsksThree C.calls H.calls coarse_question last_question result coder.old chooser.old coder.new chooser.new }
-    ensures count { C.calls.count coder.new ≡ C.calls.count coder.old + 3 }
+    at: Place,
+    question: Question,
+) -> u32
+    requires valid { IsValid question }
+    requires counted { IsCounted question }
+    requires few { C.calls.count coder.old < 4096 }
+    ensures walked { Walked C.calls H.calls (asks_number at question) result coder.old chooser.old coder.new chooser.new }
+    ensures below { result < limit_of question }
+    ensures count { C.calls.count coder.new ≡ C.calls.count coder.old + 1 }
 {
-    let intra = ask_bit(coder, chooser, Place::Intra, 3);
-    let at = Place::Coarse {
-        band: 0,
-        channel: 0,
-    };
-    let coarse = ask_value_at(coder, chooser, at, coarse_question);
-    let at = Place::Last {
-        band: 0,
-        channel: 0,
-    };
-    let last = ask_at(coder, chooser, at, last_question);
-    FirstEnergy {
-        intra,
-        coarse,
-        last,
+    ask_at(coder, chooser, at, question) as u32
+}
+
+/// Asks a bit that is 1 with probability 2^-p where at least `cost` bits are left of the budget, which is in bits, and
+/// gives whether it is 1. Elsewhere nothing is asked, and it is not.
+pub fn ask_bit_within<C: Coder, H: Chooser>(
+    coder: &mut C,
+    chooser: &mut H,
+    at: Place,
+    p: u32,
+    cost: u32,
+    budget: u32,
+) -> bool
+    requires valid { IsValid (Question.Bit p) }
+    requires cost { cost ≤ 2 ^ 16 }
+    requires few { C.calls.count coder.old < 4096 }
+    ensures walked { Walked C.calls H.calls (bit_within at p cost budget) result coder.old chooser.old coder.new chooser.new }
+    ensures count { C.calls.count coder.new ≤ C.calls.count coder.old + 1 }
+{
+    if coder.tell() + cost > budget {
+        return false;
     }
+    ask_bit(coder, chooser, at, p)
 }

@@ -3,9 +3,9 @@ use Rattle.std.specs.Prelude.{ℕ, List, [], ◌∷◌, ◌++◌, codes}
 use Rattle.std.specs.Fmt.{decimal}
 use Rattle.celt_base.specs.declared.status.Fault.{Fault}
 use Rattle.celt_base.specs.declared.status.FaultName.{FaultName}
-use Rattle.celt_base.specs.declared.status.FaultName.TheVariants.{BadCapture, BadPageVersion, BadChecksum, OtherStream, PageGap, BadContinuation, BadHead, UnsupportedFamily, BadTags, PacketTooLong, BadPacket, NotCelt, BadGranule, AfterEnd, Truncated, BadRiff, UnsupportedFormat, NoData, DataTruncated, NotBuilt}
+use Rattle.celt_base.specs.declared.status.FaultName.TheVariants.{BadCapture, BadPageVersion, BadChecksum, OtherStream, PageGap, BadContinuation, BadHead, UnsupportedFamily, BadTags, PacketTooLong, BadPacket, NotCelt, BadGranule, AfterEnd, Truncated, BadRiff, UnsupportedFormat, NoData, DataTruncated, ChannelChange, NoLink, BadText, TextOverrun, TextTruncated, NotBuilt}
 use Rattle.celt_cli.specs.declared.notes.Place.{Place}
-use Rattle.celt_cli.specs.declared.notes.Place.TheVariants.{Page, Packet, Byte}
+use Rattle.celt_cli.specs.declared.notes.Place.TheVariants.{Page, Packet, Byte, Line}
 
 abbrev pub number_of : FaultName → ℕ
 number_of BadCapture = 1
@@ -27,6 +27,11 @@ number_of BadRiff = 20
 number_of (UnsupportedFormat codec bits channels rate) = 21
 number_of NoData = 22
 number_of DataTruncated = 23
+number_of ChannelChange = 24
+number_of NoLink = 25
+number_of BadText = 26
+number_of TextOverrun = 27
+number_of TextTruncated = 28
 number_of NotBuilt = 99
 
 abbrev pub word_of : FaultName → List ℕ
@@ -49,6 +54,11 @@ word_of BadRiff = codes "BadRiff"
 word_of (UnsupportedFormat codec bits channels rate) = codes "UnsupportedFormat"
 word_of NoData = codes "NoData"
 word_of DataTruncated = codes "DataTruncated"
+word_of ChannelChange = codes "ChannelChange"
+word_of NoLink = codes "NoLink"
+word_of BadText = codes "BadText"
+word_of TextOverrun = codes "TextOverrun"
+word_of TextTruncated = codes "TextTruncated"
 word_of NotBuilt = codes "NotBuilt"
 
 -- what the place of a fault counts, given what it counts where a form is not built
@@ -72,12 +82,18 @@ place_of BadRiff unbuilt = Byte
 place_of (UnsupportedFormat codec bits channels rate) unbuilt = Byte
 place_of NoData unbuilt = Byte
 place_of DataTruncated unbuilt = Byte
+place_of ChannelChange unbuilt = Page
+place_of NoLink unbuilt = Page
+place_of BadText unbuilt = Line
+place_of TextOverrun unbuilt = Line
+place_of TextTruncated unbuilt = Line
 place_of NotBuilt unbuilt = unbuilt
 
 abbrev pub place_word : Place → List ℕ
 place_word Page = codes "page"
 place_word Packet = codes "packet"
 place_word Byte = codes "byte"
+place_word Line = codes "line"
 
 -- a space, a label, a space and a number
 abbrev pub labelled_of : List ℕ → ℕ → List ℕ
@@ -105,6 +121,11 @@ details_of (UnsupportedFormat codec bits channels rate) =
     (labelled_of (codes "codec") codec ++ labelled_of (codes "bits") bits) ++ (labelled_of (codes "channels") channels ++ labelled_of (codes "rate") rate)
 details_of NoData = []
 details_of DataTruncated = []
+details_of ChannelChange = []
+details_of NoLink = []
+details_of BadText = []
+details_of TextOverrun = []
+details_of TextTruncated = []
 details_of NotBuilt = []
 
 -- "celt: ", a number, a space and a word

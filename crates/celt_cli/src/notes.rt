@@ -11,6 +11,7 @@ pub enum Place {
     Page,
     Packet,
     Byte,
+    Line,
 }
 
 /// The number of a fault.
@@ -42,6 +43,11 @@ fn number(name: FaultName) -> u8
         } => 21,
         FaultName::NoData => 22,
         FaultName::DataTruncated => 23,
+        FaultName::ChannelChange => 24,
+        FaultName::NoLink => 25,
+        FaultName::BadText => 26,
+        FaultName::TextOverrun => 27,
+        FaultName::TextTruncated => 28,
         FaultName::NotBuilt => 99,
     }
 }
@@ -75,6 +81,11 @@ fn word(name: FaultName) -> &'static str
         } => "UnsupportedFormat",
         FaultName::NoData => "NoData",
         FaultName::DataTruncated => "DataTruncated",
+        FaultName::ChannelChange => "ChannelChange",
+        FaultName::NoLink => "NoLink",
+        FaultName::BadText => "BadText",
+        FaultName::TextOverrun => "TextOverrun",
+        FaultName::TextTruncated => "TextTruncated",
         FaultName::NotBuilt => "NotBuilt",
     }
 }
@@ -96,6 +107,9 @@ fn counted(name: FaultName, unbuilt: Place) -> Place
         } => Place::Byte,
         FaultName::NoData => Place::Byte,
         FaultName::DataTruncated => Place::Byte,
+        FaultName::BadText => Place::Line,
+        FaultName::TextOverrun => Place::Line,
+        FaultName::TextTruncated => Place::Line,
         FaultName::NotBuilt => unbuilt,
         _ => Place::Page,
     }
@@ -109,6 +123,7 @@ fn place_name(place: Place) -> &'static str
         Place::Page => "page",
         Place::Packet => "packet",
         Place::Byte => "byte",
+        Place::Line => "line",
     }
 }
 

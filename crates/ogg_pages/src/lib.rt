@@ -2,7 +2,6 @@
 #![tactic(auto)]
 
 pub mod checksum;
-pub mod held;
 pub mod laws;
 pub mod page;
 pub mod reader;

@@ -3,9 +3,9 @@
 ghost use Rattle.std.specs.Prelude.{◌≡◌, ◌+◌, ◌-◌, ◌≤◌, List, ℕ, [], ◌++◌, length, min, drop, take, IfOk, vec_capacity};
 ghost use Rattle.ogg_pages.specs.Steps.{IsStep};
 
-use crate::held::drop_front;
 use crate::page::{MAX_PAGE_LEN, PageFault, Verdict, judge};
 use crate::view::PageView;
+use celt_base::held::drop_front;
 use celt_base::status::OutOfMemory;
 use std::alloc::Global;
 use std::marker::Model;

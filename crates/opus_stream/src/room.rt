@@ -2,8 +2,8 @@
 //! page's segments.
 ghost use Rattle.std.specs.Prelude.{◌≡◌, ◌+◌, ◌≤◌};
 
+use celt_base::held::drop_front;
 use celt_base::status::OutOfMemory;
-use ogg_pages::held::drop_front;
 use std::alloc::Global;
 use std::marker::Model;
 

@@ -1,11 +1,13 @@
 -- The answers of a frame are determined, and the answer of a bit is computed.
-use Rattle.std.proofs.Common.{◌≡◌, ℕ, zero, suc, ◌+◌, ◌-◌, ◌*◌, ◌/◌, ◌^◌, ◌<◌, ◌≤◌, min, true, false, nat_lt, if◌then◌else◌, List, [], ◌∷◌, map, ℤ, pos, negsuc, refl, sym, ap, ◌∙◌, subst, arith}
+use Rattle.std.proofs.Common.{◌≡◌, ℕ, zero, suc, ◌+◌, ◌-◌, ◌*◌, ◌/◌, ◌^◌, ◌<◌, ◌≤◌, min, true, false, nat_lt, if◌then◌else◌, List, [], ◌∷◌, ◌++◌, map, ℤ, pos, negsuc, refl, sym, ap, ◌∙◌, subst, arith}
 use Rattle.std.proofs.lemmas.Bool.Decides.{nat_tests}
 use Rattle.celt_base.specs.declared.question.Question.{Question}
 use Rattle.celt_base.specs.declared.question.Question.TheVariants.{Bit, Table, Uniform, Laplace, Step, Triangle, Raw}
 use Rattle.celt_base.specs.Intervals.{Interval, whole, narrowed}
 use Rattle.celt_base.specs.Questions.{Row, Answered, IsBelow, part_of, part_steps, raw_steps, bit_row, table_row, answers_of, uniform_row, low_bits, laplace_row, place_of, step_row, triangle_row, after_answer, interval_of}
+use Rattle.celt_base.specs.WalkOrders.{Decided}
 use Rattle.celt_base.proofs.Fillings.{place_of_one}
+use Rattle.celt_base.proofs.PaceSteps.{interval_longer}
 use Rattle.range_coder.specs.FrameBits.{head, tail}
 use Rattle.range_coder.specs.Reading.{Holds, AreRead, IsNumberRead, Answers, AnswersFrom, bit_of, first_bit}
 use Rattle.range_coder.proofs.Parts.{one_is_cut, zero_is_cut, place_determined}
@@ -105,3 +107,13 @@ bit_answer frame i p (negsuc n) some a = absurd a.is_answer
 pub first_bit_answer : (frame : List ℕ) (p : ℕ) (answer : ℤ) → 1 ≤ p → Answers frame (interval_of []) (Bit p) answer → answer ≡ pos (first_bit frame p)
 unfolding first_bit interval_of
 first_bit_answer frame p answer some a = bit_answer frame whole p answer some a
+
+-- by the list that stood before each answer, and by its interval
+pub answers_from : (frame : List ℕ) (before list : List Answered)
+    → Decided (λ list question answer. Answers frame (interval_of list) question answer) (λ list a. list ++ a ∷ []) before list
+    → AnswersFrom frame (interval_of before) list
+answers_from frame before [] decided = tt
+answers_from frame before (a ∷ list) decided = (
+  decided.0,
+  subst (λ i. AnswersFrom frame i list) (interval_longer before a) (answers_from frame (before ++ a ∷ []) list decided.1),
+)

@@ -1,11 +1,12 @@
 //! Rows of a reader: frames with the answers of their questions, and the pace after them.
-ghost use Rattle.std.specs.Prelude.{◌≤◌, IfSome, IsTrue};
+ghost use Rattle.std.specs.Prelude.{◌≡◌, ◌≤◌, IfSome, IsTrue};
 ghost use Rattle.celt_base.specs.Questions.{IsValid, IsEven};
+ghost use Rattle.range_coder.specs.Readers.{reader_count};
 
 use crate::reader::Reader;
-use celt_base::coder::{Coder, Mute};
+use celt_base::coder::{Coder, Mute, Place};
 use celt_base::question::{Question, TableId};
-use celt_base::walk::{FirstEnergy, ask_first_energy};
+use celt_base::walk::{ask_bit, ask_bit_within, ask_number, ask_value_at};
 
 // Bit(p), its answer, and the bits, the eighths and the width that the reader tells after it.
 type Row = (u32, i64, u32, u32, u32);
@@ -488,18 +489,46 @@ fn whole_frames(rt: HostRuntime) {
     }
 }
 
+/// The first energy of a frame: whether it is coded without the frame before, its coarse value, and its last bit.
+#[derive(Clone, Copy, Debug, PartialEq, Eq)]
+struct FirstEnergy {
+    intra: bool,
+    coarse: i64,
+    last: u32,
+}
+
+// A walk in small over a reader at its start and a mute chooser: three questions, each of a kind of its own.
+fn ask_first_energy(reader: &mut Reader) -> FirstEnergy
+    requires { reader_count reader.old ≡ 0 }
+{
+    let (band, channel) = (0, 0);
+    let small = Question::Table(TableId::Small);
+    let intra = ask_bit(reader, &mut Mute, Place::Intra, 3);
+    let coarse = ask_value_at(reader, &mut Mute, Place::Coarse { band, channel }, small);
+    let last = ask_number(
+        reader,
+        &mut Mute,
+        Place::Last { band, channel },
+        Question::Raw(1),
+    );
+    FirstEnergy {
+        intra,
+        coarse,
+        last,
+    }
+}
+
 // A walk over a reader and a mute chooser: a bit, a small energy and a raw bit, and the pace after them.
 #[test]
 fn a_walk_of_three_questions(rt: HostRuntime) {
-    let rows: [([u8; 3], bool, i64, i64, u32, u32); 3] = [
+    let rows: [([u8; 3], bool, i64, u32, u32, u32); 3] = [
         ([0x9a, 0x3c, 0x55], false, -1, 1, 5, 0x1c00_0000),
         ([0xff, 0x80, 0x01], true, 1, 1, 7, 0x0400_0000),
         ([0x40, 0x00, 0x00], false, 0, 0, 4, 0x3800_0000),
     ];
     for (frame, intra, coarse, last, tell, range) in rows {
         let mut reader = Reader::new(&frame);
-        let small = Question::Table(TableId::Small);
-        let energy = ask_first_energy(&mut reader, &mut Mute, small, Question::Raw(1));
+        let energy = ask_first_energy(&mut reader);
         let want = FirstEnergy {
             intra,
             coarse,
@@ -508,4 +537,16 @@ fn a_walk_of_three_questions(rt: HostRuntime) {
         assert_eq!(rt; energy, want);
         assert_eq!(rt; (reader.tell(), reader.range()), (tell, range));
     }
+}
+
+// A bit is asked where three bits are left of the budget, of which one is told at the start of a frame: the frame of the
+// second row above, where it is 1.
+#[test]
+fn a_bit_within_a_budget(rt: HostRuntime) {
+    let frame = [0xff, 0x80, 0x01];
+    let mut reader = Reader::new(&frame);
+    let bit = ask_bit_within(&mut reader, &mut Mute, Place::Intra, 3, 3, 3);
+    assert_eq!(rt; (bit, reader.tell()), (false, 1));
+    let bit = ask_bit_within(&mut reader, &mut Mute, Place::Intra, 3, 3, 4);
+    assert_eq!(rt; (bit, reader.tell()), (true, 4));
 }

@@ -27,7 +27,7 @@ pub struct Writer<'a> {
 }
 
 impl<'a> Writer<'a> {
-    ghost use Rattle.range_coder.specs.Writers.{HasCoded, IsFinished, writer_count};
+    ghost use Rattle.range_coder.specs.Writers.{HasCoded, IsFinished, writer_pace, writer_count};
 
     /// A writer over a room of 2 to 1275 bytes, which are set to 0.
     pub fn new(room: &'a mut [u8]) -> Writer<'a>
@@ -45,6 +45,15 @@ impl<'a> Writer<'a> {
             sender: Sender::new(),
             asked: 0,
         }
+    }
+
+    /// The width of the interval, above 2^23 and at most 2^31, which an encoder and its decoder share.
+    pub fn range(&self) -> u32
+        ensures value { result ≡ (writer_pace self.now).width }
+        ensures least { 2 ^ 23 < result }
+        ensures most { result ≤ 2 ^ 31 }
+    {
+        self.sender.width
     }
 
     /// Ends the code. The room is then the code of the questions with their answers, or zero where they tell more bits

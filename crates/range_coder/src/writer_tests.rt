@@ -269,6 +269,16 @@ fn carried(room: &mut [u8; 3]) -> (u8, u8, u32, Finish) {
     (first, second, tell, sender.finish(room))
 }
 
+// The width that a writer tells before and after a question.
+#[test]
+fn the_width_is_told(rt: HostRuntime) {
+    let mut room = [0; 5];
+    let mut writer = Writer::new(&mut room);
+    assert_eq!(rt; (writer.range(), writer.tell()), (2_147_483_648, 1));
+    assert_eq!(rt; writer.ask(Question::Bit(15), 1), 1);
+    assert_eq!(rt; (writer.range(), writer.tell()), (16_777_216, 16));
+}
+
 // Two bytes 7F FF were sent when the last byte carries into both.
 #[test]
 fn a_carry_goes_through_two_bytes(rt: HostRuntime) {

@@ -1,7 +1,7 @@
 use Rattle.std.proofs.Common.{◌≤◌, ◌^◌, unsigned_abs, w32, pos, arith}
 use Rattle.std.proofs.lemmas.Int.{to_z-of_z, fits_signed_from_abs}
 use Rattle.celt_base.proofs.WalkTables.{first_entry, next_entry, next_band, last_band}
-use Rattle.band_energy.proofs.EnergyTables.{at_start, blank_kept, entry_at}
+use Rattle.celt_base.proofs.WalkEntries.{at_start, blank_kept, entry_at}
 use Rattle.band_energy.proofs.coarse_walk.ask_energies.Goals as goal
 
 pub loop-band-init : goal.loop-band-init

@@ -2,7 +2,7 @@ use Rattle.std.proofs.Common.{◌<◌, ◌^◌, slice_index, arith}
 use Rattle.std.proofs.lemmas.Nat.{pow_pos}
 use Rattle.celt_base.proofs.WalkTables.{first_entry, next_entry, next_band, last_band}
 use Rattle.band_energy.specs.EnergyScripts.{fine_at}
-use Rattle.band_energy.proofs.EnergyTables.{at_start, blank_kept, entry_at}
+use Rattle.celt_base.proofs.WalkEntries.{at_start, blank_kept, entry_at}
 use Rattle.band_energy.proofs.fine_walk.ask_fine.Goals as goal
 
 pub loop-band-init : goal.loop-band-init

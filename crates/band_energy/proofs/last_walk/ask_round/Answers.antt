@@ -1,7 +1,7 @@
 use Rattle.std.proofs.Common.{◌+◌, ◌*◌, ◌<◌, nat_le, IfSome, None, ◌∙◌, arith}
 use Rattle.celt_base.proofs.WalkTables.{first_entry, next_entry, next_band, last_band}
 use Rattle.band_energy.specs.EnergyScripts.{bands_in}
-use Rattle.band_energy.proofs.EnergyTables.{at_start, blank_kept, entry_at}
+use Rattle.celt_base.proofs.WalkEntries.{at_start, blank_kept, entry_at}
 use Rattle.band_energy.proofs.LastRounds.{reached_is, entry_script, rest_more, count_entry, count_more, few_more}
 use Rattle.band_energy.proofs.last_walk.ask_round.Goals as goal
 

@@ -1,19 +1,19 @@
 use Rattle.std.proofs.Common.{◌-◌, ap, ◌∙◌, arith}
-use Rattle.band_energy.proofs.EnergyTables.{end_most}
+use Rattle.celt_base.proofs.BandEnds.{end_most}
 use Rattle.band_energy.proofs.LastRounds.{both_rounds, rounds_walked}
 use Rattle.band_energy.proofs.last_walk.last.Goals as goal
 
 pub ask_round-first-requires : goal.ask_round-first-requires
 ask_round-first-requires g c =
     let both = both_rounds c.args.a.now c.args.kind.end in
-    let most = end_most c.args.kind.end c.args.kind.ended in
+    let most = end_most c.args.kind in
     let few = c.requires.few in
     record { few = omega (arith, both, most, few) }
 
 pub ask_round-second-requires : goal.ask_round-second-requires
 ask_round-second-requires g c =
     let both = both_rounds c.args.a.now c.args.kind.end in
-    let most = end_most c.args.kind.end c.args.kind.ended in
+    let most = end_most c.args.kind in
     let few = c.requires.few in
     let first = c.ask_round-first.ensures.count in
     record { few = omega (arith, both, most, few, first) }
@@ -28,7 +28,7 @@ returns-clause-walked g c =
 pub returns-clause-count : goal.returns-clause-count
 returns-clause-count g c =
     let both = both_rounds c.args.a.now c.args.kind.end in
-    let most = end_most c.args.kind.end c.args.kind.ended in
+    let most = end_most c.args.kind in
     let first = c.ask_round-first.ensures.count in
     let second = c.ask_round-second.ensures.count in
     omega (arith, both, most, first, second)

@@ -1,7 +1,7 @@
 use Rattle.std.proofs.Common.{◌≤◌, ◌<◌, ◌^◌, w32, to_z, of_z, sym, subst, IfSome, None, pos, unsigned_abs, slice_index, replicate, arith}
 use Rattle.std.proofs.lemmas.Int.{to_z-of_z, fits_signed_from_abs}
 use Rattle.std.proofs.lemmas.Nat.{pow_pos}
-use Rattle.band_energy.proofs.EnergyTables.{blank_kept, entry_kept}
+use Rattle.celt_base.proofs.WalkEntries.{blank_kept, entry_kept}
 use Rattle.band_energy.proofs.tests.answers_of_one.Goals as goal
 
 pub returns-clause-coarse : goal.returns-clause-coarse

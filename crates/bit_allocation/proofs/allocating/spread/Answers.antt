@@ -5,7 +5,7 @@ use Rattle.std.proofs.lemmas.Int.{to_z_pos, fits_signed_from_abs}
 use Rattle.bit_allocation.specs.declared.splitting.Split.{Split}
 use Rattle.bit_allocation.specs.Shares.{split_at, balance_of}
 use Rattle.bit_allocation.proofs.AllocationLemmas.{allocation_from, split_now, split_next, pulses_small, balance_now, balance_start}
-use Rattle.bit_allocation.proofs.Fronts.{IsFront, front_none, front_more, front_all}
+use Rattle.celt_base.proofs.Fronts.{IsFront, front_none, front_more, front_all}
 use Rattle.bit_allocation.proofs.allocating.spread.Goals as goal
 
 pub loop-band-init : goal.loop-band-init

@@ -1,7 +1,7 @@
 use Rattle.std.proofs.Common.{◌≡◌, false}
 use Rattle.std.specs.Prelude.{pos}
 use Rattle.bit_allocation.specs.Shares.{split_at, balance_of}
-use Rattle.bit_allocation.proofs.Fronts.{IsFront}
+use Rattle.celt_base.proofs.Fronts.{IsFront}
 use Rattle.bit_allocation.proofs.allocating.spread.Given as goal
 
 abbrev pub invariant-loop-band : goal.invariant-loop-band

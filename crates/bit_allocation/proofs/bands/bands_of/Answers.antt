@@ -3,8 +3,9 @@ use Rattle.std.specs.Prelude.{pos}
 use Rattle.std.specs.Int.{w32, cast_signed as to_z, cast_unsigned as of_z}
 use Rattle.std.proofs.lemmas.Int.{ints}
 use Rattle.bit_allocation.specs.Amounts.{threshold_of, most_of, offset_of}
-use Rattle.bit_allocation.proofs.AmountLemmas.{end_most, same_number}
-use Rattle.bit_allocation.proofs.Fronts.{front_none, front_more}
+use Rattle.bit_allocation.proofs.AmountLemmas.{same_number}
+use Rattle.celt_base.proofs.BandEnds.{end_most}
+use Rattle.celt_base.proofs.Fronts.{front_none, front_more}
 use Rattle.bit_allocation.proofs.bands.bands_of.Goals as goal
 
 pub loop-band-init : goal.loop-band-init

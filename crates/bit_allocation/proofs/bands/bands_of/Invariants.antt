@@ -1,6 +1,6 @@
 use Rattle.std.specs.Prelude.{pos}
 use Rattle.bit_allocation.specs.Amounts.{threshold_of, most_of, offset_of}
-use Rattle.bit_allocation.proofs.Fronts.{IsFront}
+use Rattle.celt_base.proofs.Fronts.{IsFront}
 use Rattle.bit_allocation.proofs.bands.bands_of.Given as goal
 
 abbrev pub invariant-loop-band : goal.invariant-loop-band

@@ -1,7 +1,7 @@
 use Rattle.std.proofs.Common.{ℕ, ◌<◌, ◌^◌}
 use Rattle.std.specs.Prelude.{slice_index}
 use Rattle.bit_allocation.specs.Counts.{first_of, second_of}
-use Rattle.bit_allocation.proofs.Fronts.{IsFront}
+use Rattle.celt_base.proofs.Fronts.{IsFront}
 use Rattle.bit_allocation.proofs.bands.between.Given as goal
 
 abbrev pub invariant-loop-band : goal.invariant-loop-band

@@ -1,7 +1,7 @@
 use Rattle.std.proofs.Common.{arith, refl}
 use Rattle.bit_allocation.specs.Counts.{boosted_of}
-use Rattle.bit_allocation.proofs.AmountLemmas.{end_most}
-use Rattle.bit_allocation.proofs.Fronts.{front_none, front_more}
+use Rattle.celt_base.proofs.BandEnds.{end_most}
+use Rattle.celt_base.proofs.Fronts.{front_none, front_more}
 use Rattle.bit_allocation.proofs.bands.boosted.Goals as goal
 
 pub loop-band-init : goal.loop-band-init

@@ -1,5 +1,5 @@
 use Rattle.bit_allocation.specs.Counts.{boosted_of}
-use Rattle.bit_allocation.proofs.Fronts.{IsFront}
+use Rattle.celt_base.proofs.Fronts.{IsFront}
 use Rattle.bit_allocation.proofs.bands.boosted.Given as goal
 
 abbrev pub invariant-loop-band : goal.invariant-loop-band

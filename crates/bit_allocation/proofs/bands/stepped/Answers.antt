@@ -1,6 +1,6 @@
 use Rattle.std.proofs.Common.{◌+◌, ◌*◌, ◌/◌, arith, refl}
 use Rattle.std.specs.Prelude.{slice_index}
-use Rattle.bit_allocation.proofs.Fronts.{front_none, front_more}
+use Rattle.celt_base.proofs.Fronts.{front_none, front_more}
 use Rattle.bit_allocation.proofs.bands.stepped.Goals as goal
 
 pub loop-band-init : goal.loop-band-init

@@ -1,6 +1,6 @@
 use Rattle.std.proofs.Common.{◌+◌, ◌*◌, ◌/◌}
 use Rattle.std.specs.Prelude.{slice_index}
-use Rattle.bit_allocation.proofs.Fronts.{IsFront}
+use Rattle.celt_base.proofs.Fronts.{IsFront}
 use Rattle.bit_allocation.proofs.bands.stepped.Given as goal
 
 abbrev pub invariant-loop-band : goal.invariant-loop-band

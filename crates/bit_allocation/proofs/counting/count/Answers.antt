@@ -4,9 +4,9 @@ use Rattle.std.proofs.lemmas.Bool.{cases_eq}
 use Rattle.std.proofs.lemmas.List.{get_or-set_same, get_or-set_other, length-set}
 use Rattle.bit_allocation.specs.Amounts.{threshold_of, most_of}
 use Rattle.bit_allocation.specs.Counts.{count_of, counts_of, few, is_reached, sum_below}
-use Rattle.bit_allocation.proofs.AmountLemmas.{end_most}
+use Rattle.celt_base.proofs.BandEnds.{end_most}
 use Rattle.bit_allocation.proofs.CountLemmas.{one_none, one_next, sum_next, below_end, from_end}
-use Rattle.bit_allocation.proofs.Fronts.{blank_item, front_all}
+use Rattle.celt_base.proofs.Fronts.{blank_item, front_all}
 use Rattle.bit_allocation.proofs.counting.count.Goals as goal
 
 pub loop-band-init : goal.loop-band-init

@@ -1,5 +1,5 @@
 use Rattle.std.proofs.Common.{◌-◌, sym, arith}
-use Rattle.bit_allocation.proofs.AmountLemmas.{end_most}
+use Rattle.celt_base.proofs.BandEnds.{end_most}
 use Rattle.bit_allocation.proofs.SkipSteps.{skip_start, skip_stays, skip_goes, skip_ends, bit_used}
 use Rattle.bit_allocation.proofs.skipping.skip.Goals as goal
 
