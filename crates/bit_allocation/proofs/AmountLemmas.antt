@@ -8,13 +8,13 @@ use Rattle.std.proofs.lemmas.Int.{ints, unsigned_abs-mul}
 use Rattle.std.proofs.lemmas.Nat.{mul-le}
 use Rattle.std.proofs.Math.Nat.{pow-le-pow_right}
 use Rattle.bit_allocation.specs.declared.request.Request.{Request}
-use Rattle.bit_allocation.specs.Amounts.{raised, tilted, bit_each, size_of, coefficients_of, most_of, tilt_of, less_of, offset_of, usual_of, value_of}
+use Rattle.bit_allocation.specs.Amounts.{raised, tilted, bit_each, most_of, tilt_of, less_of, offset_of, usual_of, value_of}
 use Rattle.bit_allocation.specs.Requests.{IsTrim, IsBoost, quantum_of}
 use Rattle.celt_base.specs.declared.kind.Kind.{Kind}
 use Rattle.celt_base.proofs.Below.{at_each, less, at_most}
 use Rattle.celt_base.proofs.BandEnds.{end_most}
 use Rattle.celt_tables.proofs.Entries.{caps_most, allocation_rises, edges_rise}
-use Rattle.celt_tables.specs.Tables.{caps_entry, allocation_entry, width_of}
+use Rattle.celt_tables.specs.Tables.{caps_entry, allocation_entry, width_of, size_of, coefficients_of}
 
 -- no entry of the greatest amounts is below 37
 pub caps_least : (row i : ℕ) → row < 8 → i < 21 → 37 ≤ caps_entry row i

@@ -9,7 +9,7 @@ use Rattle.std.proofs.lemmas.List.FromFn.{get_or-map-range_with_len, length-map-
 use Rattle.bit_allocation.specs.declared.plan.Plan.{Plan}
 use Rattle.bit_allocation.specs.declared.plan.Reserves.{Reserves}
 use Rattle.bit_allocation.specs.declared.request.Request.{Request}
-use Rattle.bit_allocation.specs.Amounts.{raised, boost_of, value_of, tilted, usual_of, bit_each, most_of, coefficients_of}
+use Rattle.bit_allocation.specs.Amounts.{raised, boost_of, value_of, tilted, usual_of, bit_each, most_of}
 use Rattle.bit_allocation.specs.Counts.{sum_below, count_of, counts_of, boosted_of, first_of, stepped_of, quality_of, step_of, is_reached}
 use Rattle.bit_allocation.specs.Facts.{IsPlan, whole_of}
 use Rattle.bit_allocation.specs.Plans.{choice_bits, skip_reserve, choice_reserve, dual_reserve, reserves_of, boosted_top, bands_to, plan_of}
@@ -20,7 +20,7 @@ use Rattle.bit_allocation.proofs.CountLemmas.{sum_same, counts_same, below_end, 
 use Rattle.celt_base.proofs.Fronts.{front_all}
 use Rattle.bit_allocation.proofs.SearchLemmas.{quality_passes, step_passes, no_step}
 use Rattle.celt_base.proofs.Below.{at_each}
-use Rattle.celt_tables.specs.Tables.{allocation_entry}
+use Rattle.celt_tables.specs.Tables.{allocation_entry, coefficients_of}
 use Rattle.celt_base.specs.declared.kind.Kind.{Kind}
 
 -- a list of the bands below the end, by places

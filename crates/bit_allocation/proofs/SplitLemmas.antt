@@ -7,12 +7,12 @@ use Rattle.std.proofs.lemmas.Nat.{mul-le}
 use Rattle.std.proofs.Math.Nat.{div-mul-le_self}
 use Rattle.bit_allocation.specs.declared.splitting.Split.{Split}
 use Rattle.bit_allocation.specs.declared.stereo.Stereo.{Stereo}
-use Rattle.bit_allocation.specs.Amounts.{bit_each, size_of}
+use Rattle.bit_allocation.specs.Amounts.{bit_each}
 use Rattle.bit_allocation.specs.Shares.{even_of, share_of, fine_of, wide_split, single_split, topped, split_of}
 use Rattle.bit_allocation.proofs.CountLemmas.{rises_to}
 use Rattle.celt_base.specs.declared.kind.Kind.{Kind}
 use Rattle.celt_tables.proofs.Entries.{edges_rise}
-use Rattle.celt_tables.specs.Tables.{edge_of, width_of}
+use Rattle.celt_tables.specs.Tables.{edge_of, width_of, size_of}
 
 -- the edges rise
 pub edges_to : (j k : ℕ) → j ≤ k → k ≤ 21 → edge_of j ≤ edge_of k

@@ -9,7 +9,7 @@ use Rattle.bit_allocation.specs.declared.plan.Plan.{Plan}
 use Rattle.bit_allocation.specs.declared.splitting.Split.{Split}
 use Rattle.bit_allocation.specs.declared.stereo.Stereo.{Stereo}
 use Rattle.bit_allocation.specs.declared.turns.Skipped.{Skipped}
-use Rattle.bit_allocation.specs.Amounts.{bit_each, most_of, size_of}
+use Rattle.bit_allocation.specs.Amounts.{bit_each, most_of}
 use Rattle.bit_allocation.specs.Counts.{sum_below}
 use Rattle.bit_allocation.specs.Facts.{IsSkipped, whole_of}
 use Rattle.bit_allocation.specs.Shares.{even_of, beyond_of, share_of, numbers_of, raised_bits, wide_split, single_split, topped, split_of, skipped_split, left_after, band_split, balance_of, split_at}
@@ -20,7 +20,7 @@ use Rattle.bit_allocation.proofs.CountLemmas.{sum_same, sum_next, sum_start, ris
 use Rattle.bit_allocation.proofs.SplitLemmas.{one_or_two, fine_within, fine_most, edges_to, one_split, many_split}
 use Rattle.celt_base.specs.declared.kind.Kind.{Kind}
 use Rattle.celt_tables.proofs.Entries.{edges_rise}
-use Rattle.celt_tables.specs.Tables.{edge_of, width_of}
+use Rattle.celt_tables.specs.Tables.{edge_of, width_of, size_of}
 
 -- what a split gives to pulses and fine energy and leaves over
 abbrev pub given : Kind → Split → ℕ

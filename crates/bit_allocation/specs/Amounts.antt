@@ -4,19 +4,12 @@ use Rattle.std.specs.Prelude.{ℕ, zero, suc, ◌+◌, ◌-◌, ◌*◌, ◌/◌
 use Rattle.std.specs.Int.{int_shr}
 use Rattle.bit_allocation.specs.declared.request.Request.{Request}
 use Rattle.celt_base.specs.declared.kind.Kind.{Kind}
-use Rattle.celt_tables.specs.Tables.{width_of, cap_of, allocation_entry}
+use Rattle.celt_tables.specs.Tables.{size_of, coefficients_of, cap_of, allocation_entry}
 
 -- a number, or 0 where it is below
 abbrev pub raised : ℤ → ℕ
 raised (pos n) = n
 raised (negsuc n) = 0
-
--- the coefficients of a band in one channel, and in all
-abbrev pub size_of : Kind → ℕ → ℕ
-size_of kind band = width_of band * 2 ^ kind.lm
-
-abbrev pub coefficients_of : Kind → ℕ → ℕ
-coefficients_of kind band = kind.channels * size_of kind band
 
 -- one bit in each channel
 abbrev pub bit_each : Kind → ℕ

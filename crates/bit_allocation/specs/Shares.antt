@@ -5,11 +5,11 @@ use Rattle.bit_allocation.specs.declared.plan.Plan.{Plan}
 use Rattle.bit_allocation.specs.declared.turns.Skipped.{Skipped}
 use Rattle.bit_allocation.specs.declared.stereo.Stereo.{Stereo}
 use Rattle.bit_allocation.specs.declared.splitting.Split.{Split}
-use Rattle.bit_allocation.specs.Amounts.{size_of, coefficients_of, bit_each, most_of}
+use Rattle.bit_allocation.specs.Amounts.{bit_each, most_of}
 use Rattle.celt_base.specs.declared.kind.Kind.{Kind}
 use Rattle.celt_base.specs.declared.state.Allocation.{Allocation}
 use Rattle.celt_tables.specs.declared.bands.TheConstants.{WIDTH_LOGARITHMS}
-use Rattle.celt_tables.specs.Tables.{edge_of, width_of}
+use Rattle.celt_tables.specs.Tables.{edge_of, width_of, size_of, coefficients_of}
 
 -- What is left falls evenly to the coefficients of the coded bands; what that leaves over, fewer than there are
 -- coefficients, falls to the lowest bands: what is beyond the coefficients below a band.

@@ -1,46 +1,13 @@
 //! What a band needs, may have and usually has (RFC 6716, section 4.3.3), in eighths of a bit.
 ghost use Rattle.std.specs.Prelude.{◌≡◌, ◌<◌, ◌≤◌, ◌^◌, ◌*◌, ◌+◌, pos, ◌≤ℤ◌, ◌-ℤ◌, ◌*ℤ◌, unsigned_abs};
 ghost use Rattle.std.specs.Int.{int_shr};
-ghost use Rattle.bit_allocation.specs.Amounts.{size_of, coefficients_of, bit_each, threshold_of, most_of, tilt_of, less_of, offset_of, tilted, usual_of, raised};
+ghost use Rattle.bit_allocation.specs.Amounts.{bit_each, threshold_of, most_of, tilt_of, less_of, offset_of, tilted, usual_of, raised};
 ghost use Rattle.bit_allocation.specs.Requests.{IsTrim};
 ghost use Rattle.celt_tables.specs.Tables.{allocation_entry};
 
 use celt_base::kind::Kind;
 use celt_tables::bits::ALLOCATION;
-use celt_tables::{cap, width};
-
-// The size of the frame in short blocks.
-fn scale(kind: Kind) -> u32
-    ensures value { result ≡ 2 ^ kind.lm }
-    ensures most { result ≤ 8 }
-{
-    match kind.lm {
-        0 => 1,
-        1 => 2,
-        2 => 4,
-        _ => 8,
-    }
-}
-
-/// The coefficients of a band in one channel.
-pub fn size(kind: Kind, band: u32) -> u32
-    requires { band ≤ 20 }
-    ensures value { result ≡ size_of kind band }
-    ensures least { 1 ≤ result }
-    ensures most { result ≤ 176 }
-{
-    width(band) * scale(kind)
-}
-
-/// The coefficients of a band in all channels.
-pub fn coefficients(kind: Kind, band: u32) -> u32
-    requires { band ≤ 20 }
-    ensures value { result ≡ coefficients_of kind band }
-    ensures least { 1 ≤ result }
-    ensures most { result ≤ 352 }
-{
-    u32::from(kind.channels) * size(kind, band)
-}
+use celt_tables::{cap, coefficients, size};
 
 /// One bit in each channel.
 pub fn each(kind: Kind) -> u32

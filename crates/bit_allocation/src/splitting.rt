@@ -3,12 +3,12 @@ ghost use Rattle.std.specs.Prelude.{◌≡◌, ◌+◌, ◌*◌, ◌<◌, ◌≤
 ghost use Rattle.bit_allocation.specs.Amounts.{bit_each, most_of};
 ghost use Rattle.bit_allocation.specs.Shares.{share_of, numbers_of, logarithm_of, raised_once, raised_twice, raised_bits, fine_of, wide_split, single_split, topped, split_of, skipped_split};
 
-use crate::amounts::{coefficients, each, size};
+use crate::amounts::each;
 use crate::bands::Bands;
 use crate::stereo::Stereo;
 use celt_base::kind::Kind;
 use celt_tables::bands::WIDTH_LOGARITHMS;
-use celt_tables::{edge, width};
+use celt_tables::{coefficients, edge, size, width};
 
 /// The bits of a band.
 #[derive(Clone, Copy)]

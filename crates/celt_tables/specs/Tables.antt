@@ -1,5 +1,6 @@
 -- The entries of the tables by their places (RFC 6716, section 4.3).
 use Rattle.std.specs.Prelude.{ℕ, ◌+◌, ◌-◌, ◌*◌, ◌/◌, ◌^◌, Bool, if◌then◌else◌, [], get_or, slice_index, ℤ, pos}
+use Rattle.celt_base.specs.declared.kind.Kind.{Kind}
 use Rattle.celt_tables.specs.declared.bands.TheConstants.{EDGES}
 use Rattle.celt_tables.specs.declared.bits.TheConstants.{CAPS, ALLOCATION}
 use Rattle.celt_tables.specs.declared.energies.TheConstants.{ENERGY_MODELS}
@@ -11,6 +12,13 @@ edge_of i = slice_index EDGES i
 
 abbrev pub width_of : ℕ → ℕ
 width_of i = edge_of (i + 1) - edge_of i
+
+-- The coefficients of a band in one channel, and in all.
+abbrev pub size_of : Kind → ℕ → ℕ
+size_of kind i = width_of i * 2 ^ kind.lm
+
+abbrev pub coefficients_of : Kind → ℕ → ℕ
+coefficients_of kind i = kind.channels * size_of kind i
 
 abbrev pub caps_entry : ℕ → ℕ → ℕ
 caps_entry row i = slice_index (get_or CAPS row []) i

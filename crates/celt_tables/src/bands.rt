@@ -1,7 +1,9 @@
 //! The bands of a frame (RFC 6716, section 4.3). Band i of a frame of 120 << lm samples per channel has
 //! `width(i) << lm` coefficients. Index order: the band, 0 to 20.
-ghost use Rattle.std.specs.Prelude.{◌≡◌, ◌+◌, ◌<◌, ◌≤◌};
-ghost use Rattle.celt_tables.specs.Tables.{edge_of, width_of};
+ghost use Rattle.std.specs.Prelude.{◌≡◌, ◌+◌, ◌*◌, ◌^◌, ◌<◌, ◌≤◌};
+ghost use Rattle.celt_tables.specs.Tables.{edge_of, width_of, size_of, coefficients_of};
+
+use celt_base::kind::Kind;
 
 /// Where the bands begin, in coefficients of a frame of 120 samples; the last entry is where the last band ends.
 pub const EDGES: [u32; 22] = [
@@ -35,4 +37,38 @@ pub fn width(i: u32) -> u32
     ensures most { result ≤ 22 }
 {
     edge(i + 1) - edge(i)
+}
+
+// The size of the frame in short blocks.
+fn scale(kind: Kind) -> u32
+    ensures value { result ≡ 2 ^ kind.lm }
+    ensures least { 1 ≤ result }
+    ensures most { result ≤ 8 }
+{
+    match kind.lm {
+        0 => 1,
+        1 => 2,
+        2 => 4,
+        _ => 8,
+    }
+}
+
+/// The coefficients of band `i` in one channel.
+pub fn size(kind: Kind, i: u32) -> u32
+    requires { i ≤ 20 }
+    ensures value { result ≡ size_of kind i }
+    ensures least { 1 ≤ result }
+    ensures most { result ≤ 176 }
+{
+    width(i) * scale(kind)
+}
+
+/// The coefficients of band `i` in all channels.
+pub fn coefficients(kind: Kind, i: u32) -> u32
+    requires { i ≤ 20 }
+    ensures value { result ≡ coefficients_of kind i }
+    ensures least { 1 ≤ result }
+    ensures most { result ≤ 352 }
+{
+    u32::from(kind.channels) * size(kind, i)
 }

@@ -1,8 +1,8 @@
 //! How many bits a band may have, and how many it usually has (RFC 6716, section 4.3.3).
-ghost use Rattle.std.specs.Prelude.{◌≡◌, ◌*◌, ◌^◌, ◌<◌, ◌≤◌, pos};
-ghost use Rattle.celt_tables.specs.Tables.{width_of, caps_entry, cap_of};
+ghost use Rattle.std.specs.Prelude.{◌≡◌, ◌<◌, ◌≤◌, pos};
+ghost use Rattle.celt_tables.specs.Tables.{caps_entry, cap_of};
 
-use crate::bands::width;
+use crate::bands::coefficients;
 use celt_base::kind::Kind;
 
 /// The greatest amounts, in 1/64 of a bit for each coefficient of each channel, less 64. Index order: the size of the
@@ -98,21 +98,6 @@ fn caps_entry(row: u32, i: u32) -> u32
     ensures most { result ≤ 240 }
 {
     CAPS[row as usize][i as usize]
-}
-
-// How many coefficients band `i` has in all channels.
-fn coefficients(kind: Kind, i: u32) -> u32
-    requires { i ≤ 20 }
-    ensures value { result ≡ kind.channels * (width_of i * 2 ^ kind.lm) }
-    ensures most { result ≤ 352 }
-{
-    let size = match kind.lm {
-        0 => 1,
-        1 => 2,
-        2 => 4,
-        _ => 8,
-    };
-    u32::from(kind.channels) * (width(i) * size)
 }
 
 /// The most that band `i` may have, in eighths of a bit (RFC 6716, section 4.3.3).

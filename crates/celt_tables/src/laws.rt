@@ -5,6 +5,12 @@ ghost use Rattle.celt_base.specs.declared.question.TableId.{TableId};
 ghost use Rattle.celt_base.specs.declared.question.TableId.TheVariants.{Tapset, Small, Spread, Trim};
 ghost use Rattle.celt_base.specs.Questions.{IsValid, lengths_of};
 ghost use Rattle.celt_tables.specs.declared.symbols.TheConstants.{TAPSET, SMALL, SPREAD, TRIM};
+ghost use Rattle.celt_tables.specs.declared.bands.TheConstants.{EDGES, WIDTH_LOGARITHMS, BAND_CHOICE_BITS};
+ghost use Rattle.celt_tables.specs.declared.bits.TheConstants.{CAPS, ALLOCATION};
+ghost use Rattle.celt_tables.specs.declared.energies.TheConstants.{ENERGY_MODELS, MEANS};
+ghost use Rattle.celt_tables.specs.declared.resolution.TheConstants.{CHANGES};
+ghost use Rattle.celt_tables.specs.declared.window.TheConstants.{WINDOW};
+ghost use Rattle.celt_tables.specs.Standard.{edge_list, width_logarithm_list, band_choice_list, mean_list, cap_rows, allocation_rows, model_rows, change_rows, window_list};
 ghost use Rattle.celt_tables.specs.Tables.{
   edge_of,
   caps_entry,
@@ -50,4 +56,17 @@ pub fn law_table_lengths()
 pub fn law_window()
     ensures rise { (k : ℕ) → k < 119 → window_entry k ≤ window_entry (k + 1) }
     ensures most { (k : ℕ) → k < 120 → window_entry k < 32768 }
+{}
+
+/// The tables are those of the standard.
+pub fn law_tables()
+    ensures edges { EDGES ≡ edge_list }
+    ensures widths { WIDTH_LOGARITHMS ≡ width_logarithm_list }
+    ensures choices { BAND_CHOICE_BITS ≡ band_choice_list }
+    ensures caps { CAPS ≡ cap_rows }
+    ensures allocation { ALLOCATION ≡ allocation_rows }
+    ensures models { ENERGY_MODELS ≡ model_rows }
+    ensures means { MEANS ≡ mean_list }
+    ensures changes { CHANGES ≡ change_rows }
+    ensures window { WINDOW ≡ window_list }
 {}

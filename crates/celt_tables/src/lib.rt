@@ -12,10 +12,11 @@ pub mod symbols;
 mod tests;
 pub mod window;
 
-pub use bands::{edge, width};
+pub use bands::{coefficients, edge, size, width};
 pub use bits::cap;
 pub use energies::coarse_question;
 pub use laws::{
-    law_allocation, law_caps, law_edges, law_energy_models, law_table_lengths, law_window,
+    law_allocation, law_caps, law_edges, law_energy_models, law_table_lengths, law_tables,
+    law_window,
 };
 pub use resolution::tf_of;

@@ -1,12 +1,12 @@
 -- Powers of two: the parts' literals and the octave's rise, by evaluation; sizes, and the logarithm.
 use Rattle.std.proofs.Common.{◌≡◌, ℕ, zero, suc, ◌+◌, ◌-◌, ◌*◌, ◌/◌, ◌%◌, ◌^◌, ◌<◌, ◌≤◌, refl, sym, ap, subst, inl, inr, arith, ◌∙◌, Bool, true, false, [], ◌∷◌, get_or}
-use Rattle.std.specs.Prelude.{nat_le, nat_lt, nat_eq}
+use Rattle.std.specs.Prelude.{if◌then◌else◌, nat_le, nat_lt, nat_eq, min}
 use Rattle.std.proofs.lemmas.Nat.{mul-le, mul-lt, div_below, le-div, pow_pos, pow-add, shr-shr, div-mul-add, mod-mul-add, leading_top}
 use Rattle.std.proofs.lemmas.Bool.{cases_lt, cases_order, cases_Bool, ltb-true, eqb-true, leb-true, leb-false, le-leb, cond-true, cond-false}
 use Rattle.std.proofs.Math.Nat.{mul_assoc, mul-div_cancel_left, pow-suc, mod-eq_of_lt, div-mul-le_self, pow-le-pow_right}
 use Rattle.std.specs.Int.Count.{count_leading_zeros}
 use Rattle.fixed_math.specs.Root.{root, root_by}
-use Rattle.fixed_math.specs.Powers.{part, multiplied, power_by, fraction, mantissa, power, greatest, logarithm, IsLogarithm}
+use Rattle.fixed_math.specs.Powers.{part, multiplied, power_by, fraction, mantissa, octaves, ex, power, greatest, logarithm, IsLogarithm}
 use Rattle.fixed_math.specs.Octave.{IsPlace}
 use Rattle.fixed_math.proofs.TableLemmas.{all_from, all_from-at, climbs, rises_over}
 
@@ -236,6 +236,87 @@ pub power-over : (i k : ℕ) → i ≤ k → power i ≤ power k
 power-over i k h =
     let e : i + (k - i) ≡ k = omega arith in
     subst (λ n. power i ≤ power n) e (rises_over power power_next i (k - i))
+
+-- ---- powers down from 1
+
+at_least : (o : ℕ) → 31 < o → 31 ≤ o
+at_least o h = omega arith
+
+-- from 31 octaves on nothing is left, so that the shift alone says it
+ex-shift : (d : ℕ) → mantissa (octaves d * 1024 - d) / 2 ^ octaves d ≡ ex d
+unfolding ex
+ex-shift d = by_test (nat_lt 31 (octaves d)) refl
+  where
+    nothing : 31 < octaves d → mantissa (octaves d * 1024 - d) / 2 ^ octaves d ≡ 0
+    nothing h =
+        let m : mantissa (octaves d * 1024 - d) < 2 ^ 31 = mantissa_high (octaves d * 1024 - d) (omega arith) in
+        let p : 2 ^ 31 ≤ 2 ^ octaves d = pow-le-pow_right {n = 2} (omega arith) (at_least (octaves d) h) in
+        let b = div_below (mantissa (octaves d * 1024 - d)) (2 ^ octaves d) 1 (pow_pos (octaves d)) (omega arith) in omega arith
+
+    by_test : (t : Bool) → nat_lt 31 (octaves d) ≡ t → mantissa (octaves d * 1024 - d) / 2 ^ octaves d ≡ (if t then 0 else mantissa (octaves d * 1024 - d) / 2 ^ octaves d)
+    by_test true e = nothing (ltb-true 31 (octaves d) e)
+    by_test false e = refl
+
+-- the octaves as the code rounds them up
+pub octaves-is : (d down o : ℕ) → down ≡ d → o ≡ down / 1024 + min 1 (down % 1024) → o ≡ octaves d
+octaves-is d down o e h = omega arith
+
+pub ex_at : (d o : ℕ) → o ≡ octaves d → mantissa (o * 1024 - d) / 2 ^ o ≡ ex d
+ex_at d o e = ap (λ n. mantissa (n * 1024 - d) / 2 ^ n) e ∙ ex-shift d
+
+pub ex_nothing : (d o : ℕ) → o ≡ octaves d → 31 < o → 0 ≡ ex d
+ex_nothing d o e h =
+    let m : mantissa (o * 1024 - d) < 2 ^ 31 = mantissa_high (o * 1024 - d) (omega arith) in
+    let p : 2 ^ 31 ≤ 2 ^ o = pow-le-pow_right {n = 2} (omega arith) (at_least o h) in
+    let b = div_below (mantissa (o * 1024 - d)) (2 ^ o) 1 (pow_pos o) (omega arith) in
+    omega (arith, ex_at d o e)
+
+pub ex-start : ex 0 ≡ 2 ^ 30
+ex-start = sym (ex-shift 0) ∙ ap (λ n. n / 1) mantissa-first
+
+pub ex-octave : (d : ℕ) → ex (d + 1024) ≡ ex d / 2
+ex-octave d =
+    let o : octaves d + 1 ≡ octaves (d + 1024) = omega arith in
+    let f : (octaves d + 1) * 1024 - (d + 1024) ≡ octaves d * 1024 - d = omega arith in
+    sym (ex_at (d + 1024) (octaves d + 1) o)
+    ∙ ap (λ n. mantissa n / 2 ^ (octaves d + 1)) f
+    ∙ sym (shr-shr (mantissa (octaves d * 1024 - d)) (octaves d) 1)
+    ∙ ap (λ n. n / 2) (ex-shift d)
+
+ex_within : (d o f : ℕ) → f < 1023 → mantissa f / 2 ^ o ≤ mantissa (suc f) / 2 ^ o
+ex_within d o f h = quotients (mantissa f) (mantissa (suc f)) (2 ^ o) (pow_pos o) (omega (arith, mantissa_step f h))
+
+ex_across : (o : ℕ) → mantissa 1023 / 2 ^ (1 + o) ≤ mantissa 0 / 2 ^ o
+ex_across o =
+    let a : mantissa 1023 / 2 / 2 ^ o ≡ mantissa 1023 / 2 ^ (1 + o) = shr-shr (mantissa 1023) 1 o in
+    let q = quotients (mantissa 1023 / 2) (mantissa 0) (2 ^ o) (pow_pos o) (omega (arith, mantissa-last, mantissa-first)) in
+    omega arith
+
+ex_next : (d : ℕ) → ex (suc d) ≤ ex d
+ex_next d = elim (cases_lt d (octaves d * 1024)) [
+  | inl p ↦
+      let o : octaves d ≡ octaves (suc d) = omega arith in
+      let f : octaves d * 1024 - d ≡ suc (octaves d * 1024 - suc d) = omega arith in
+      let e : mantissa (suc (octaves d * 1024 - suc d)) / 2 ^ octaves d ≡ ex d = ap (λ n. mantissa n / 2 ^ octaves d) (sym f) ∙ ex-shift d in
+      omega (arith, e, ex_at (suc d) (octaves d) o, ex_within d (octaves d) (octaves d * 1024 - suc d) (omega arith))
+  | inr p ↦
+      let o : 1 + octaves d ≡ octaves (suc d) = omega arith in
+      let f : (1 + octaves d) * 1024 - suc d ≡ 1023 = omega arith in
+      let g : octaves d * 1024 - d ≡ 0 = omega arith in
+      let e : mantissa 1023 / 2 ^ (1 + octaves d) ≡ ex (suc d) = ap (λ n. mantissa n / 2 ^ (1 + octaves d)) (sym f) ∙ ex_at (suc d) (1 + octaves d) o in
+      let i : mantissa 0 / 2 ^ octaves d ≡ ex d = ap (λ n. mantissa n / 2 ^ octaves d) (sym g) ∙ ex-shift d in
+      omega (arith, ex_across (octaves d))
+]
+
+ex_over : (d n : ℕ) → ex (d + n) ≤ ex d
+ex_over d zero = let e : d + 0 ≡ d = omega arith in omega (arith, ap ex e)
+ex_over d (suc n) = let e : suc (d + n) ≡ d + suc n = omega arith in omega (arith, ap ex e, ex_next (d + n), ex_over d n)
+
+pub ex-falls : (d down : ℕ) → d ≤ down → ex down ≤ ex d
+ex-falls d down h = let e : d + (down - d) ≡ down = omega arith in subst (λ n. ex n ≤ ex d) e (ex_over d (down - d))
+
+pub ex-most : (d : ℕ) → ex d ≤ 2 ^ 30
+ex-most d = omega (arith, ex-start, ex-falls 0 d (omega arith))
 
 -- ---- the logarithm
 

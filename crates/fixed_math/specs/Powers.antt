@@ -1,5 +1,5 @@
 -- Powers of two by steps of 2^(1/1024), and logarithms.
-use Rattle.std.specs.Prelude.{ℕ, zero, suc, ◌*◌, ◌/◌, ◌%◌, ◌^◌, ◌<◌, ◌≤◌, nat_le, Bool, if◌then◌else◌}
+use Rattle.std.specs.Prelude.{ℕ, zero, suc, ◌+◌, ◌-◌, ◌*◌, ◌/◌, ◌%◌, ◌^◌, ◌<◌, ◌≤◌, nat_le, nat_lt, Bool, if◌then◌else◌}
 use Rattle.fixed_math.specs.Root.{root}
 
 -- 2 to the power 1 / 2^k, in units of 2^-60: each is the root of the one before
@@ -28,6 +28,15 @@ mantissa f = fraction f / 2 ^ 30
 -- 2 to the power e / 1024, rounded down: the fraction of the place in the octave, shifted right by 60 less the octave
 unfoldable pub power : ℕ → ℕ
 power e = fraction (e % 1024) * 2 ^ (e / 1024) / 2 ^ 60
+
+-- how many octaves from -d / 1024 up to 0, the octave of -d with them
+abbrev pub octaves : ℕ → ℕ
+octaves d = (d + 1023) / 1024
+
+-- 2 to the power -d / 1024, rounded down, in units of 2^-30: the mantissa of the place in the octave, halved for each
+-- octave up to 0; from 32 octaves on 0
+unfoldable pub ex : ℕ → ℕ
+ex d = if nat_lt 31 (octaves d) then 0 else mantissa (octaves d * 1024 - d) / 2 ^ octaves d
 
 -- e is the greatest number with 2^(e/1024), rounded down, at most v
 pub record IsLogarithm (v e : ℕ) : Type 0 where

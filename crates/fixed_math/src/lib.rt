@@ -16,6 +16,6 @@ mod units;
 pub use angles::{Trig, law_circle};
 pub use bitexact::{bitexact_cos, bitexact_log2tan};
 pub use kernels::{law_rounded, mulr, noise, rounded_sum};
-pub use powers::{Exp, law_logarithm, law_mantissa};
+pub use powers::{Exp, law_ex, law_logarithm, law_mantissa};
 pub use roots::{bit_length, isq, law_bit_length, law_root};
 pub use units::unit;

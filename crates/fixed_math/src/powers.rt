@@ -1,7 +1,7 @@
 //! Powers of two by steps of 2^(1/1024), as gains and energies take them (RFC 6716, sections 4.3.2 and
 //! 4.3.6): 1024 steps to the octave.
-ghost use Rattle.std.specs.Prelude.{◌≡◌, ℕ, ◌+◌, ◌*◌, ◌^◌, ◌<◌, ◌≤◌, pos};
-ghost use Rattle.fixed_math.specs.Powers.{part, multiplied, fraction, mantissa, logarithm, IsLogarithm};
+ghost use Rattle.std.specs.Prelude.{◌≡◌, ℕ, ◌+◌, ◌*◌, ◌/◌, ◌^◌, ◌<◌, ◌≤◌, pos, neg_ℤ, ◌≤ℤ◌, unsigned_abs};
+ghost use Rattle.fixed_math.specs.Powers.{part, multiplied, fraction, mantissa, ex, logarithm, IsLogarithm};
 ghost use Rattle.fixed_math.specs.Octave.{IsOctave, IsPlace};
 
 /// The steps of an octave.
@@ -49,6 +49,21 @@ impl Exp {
         ensures high { result < 2 ^ 31 }
     {
         (self.powers[f as usize] >> 30) as u32
+    }
+
+    /// 2 to the power `e / 1024` (Q30), rounded down, for `e` up to 0.
+    pub fn ex(&self, e: i32) -> u32
+        requires low { neg_ℤ (pos (2 ^ 17)) ≤ℤ e }
+        requires high { e ≤ℤ pos 0 }
+        ensures value { result ≡ ex (unsigned_abs e) }
+        ensures most { result ≤ 2 ^ 30 }
+    {
+        let down = e.unsigned_abs();
+        let octaves = down.div_ceil(1024);
+        if octaves > 31 {
+            return 0;
+        }
+        self.mant(octaves * 1024 - down) >> octaves
     }
 
     /// The greatest e for which 2 to the power `e / 1024`, rounded down, is at most `v`.
@@ -107,6 +122,14 @@ fn times(bit: u32, q: u64, p: u64) -> u64
 pub fn law_mantissa(f: u32, g: u32)
     requires { g < 1024 }
     ensures { f < g → mantissa f < mantissa g }
+{}
+
+/// An octave down halves the power; it is 1 at 0 and never rises on the way down.
+pub fn law_ex(d: u64, down: u64)
+    requires { d ≤ down }
+    ensures start { ex 0 ≡ 2 ^ 30 }
+    ensures octave { ex (d + 1024) ≡ ex d / 2 }
+    ensures falls { ex down ≤ ex d }
 {}
 
 /// `logarithm` is the greatest number whose power of two is at most `v`, and never falls.

@@ -126,6 +126,35 @@ fn powers(rt: HostRuntime) {
     }
 }
 
+// From a program apart from this one; the last power that is not 0 is at 30 octaves down.
+#[test]
+fn powers_down(rt: HostRuntime) {
+    let exp = Exp::new();
+    for (e, power) in [
+        (0i32, 1_073_741_824u32),
+        (-1, 1_073_015_252),
+        (-2, 1_072_289_172),
+        (-500, 765_442_491),
+        (-1023, 537_234_443),
+        (-1024, 536_870_912),
+        (-1025, 536_507_626),
+        (-2047, 268_617_221),
+        (-5000, 36_393_753),
+        (-10_240, 1_048_576),
+        (-20_000, 1417),
+        (-30_719, 1),
+        (-30_720, 1),
+        (-30_721, 0),
+        (-31_744, 0),
+        (-31_745, 0),
+        (-131_072, 0),
+    ] {
+        assert!(rt; -131_072 <= e);
+        assert!(rt; e <= 0);
+        assert_eq!(rt; exp.ex(e), power, "power {e}");
+    }
+}
+
 #[test]
 fn bitexact(rt: HostRuntime) {
     assert_eq!(rt; bitexact_cos(64), 32_767);

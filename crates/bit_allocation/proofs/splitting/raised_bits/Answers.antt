@@ -1,5 +1,5 @@
 use Rattle.std.proofs.Common.{◌∙◌, ◌*◌, ap}
-use Rattle.bit_allocation.specs.Amounts.{size_of}
+use Rattle.celt_tables.specs.Tables.{size_of}
 use Rattle.bit_allocation.specs.Shares.{raised_once, raised_twice, raised_bits}
 use Rattle.bit_allocation.proofs.splitting.raised_bits.Goals as goal
 

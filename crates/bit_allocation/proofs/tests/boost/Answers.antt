@@ -2,7 +2,8 @@ use Rattle.std.proofs.Common.{◌≡◌, ◌≤◌, ◌<◌, ◌*◌, ℕ, arith
 use Rattle.std.specs.Prelude.{pos}
 use Rattle.std.specs.Int.{w32, cast_signed as to_z}
 use Rattle.std.proofs.lemmas.Int.{ints, to_z_pos}
-use Rattle.bit_allocation.specs.Amounts.{most_of, size_of}
+use Rattle.bit_allocation.specs.Amounts.{most_of}
+use Rattle.celt_tables.specs.Tables.{size_of}
 use Rattle.bit_allocation.specs.Requests.{IsBoost, quantum_of}
 use Rattle.bit_allocation.proofs.AmountLemmas.{most_of_most, size_least, some_coefficients}
 use Rattle.bit_allocation.proofs.tests.boost.Goals as goal
