@@ -6,7 +6,8 @@ use Rattle.std.proofs.lemmas.Bool.{cases_eq}
 use Rattle.std.proofs.lemmas.List.{get_or-set_same, get_or-set_other, get_or_default, ext_get_or}
 use Rattle.fixed_math.proofs.RoundingLemmas.{product_rounded}
 use Rattle.fixed_math.specs.Items.{item}
-use Rattle.post_filter.specs.Deemphasis.{before, remainder, IsDeemphasis}
+use Rattle.fixed_math.proofs.ItemLemmas.{item-listed, length-listed}
+use Rattle.post_filter.specs.Deemphasis.{before, remainder, IsDeemphasis, output_before, deemphasized}
 
 -- an output stays in its bound
 pub remainder_size : (y : ℤ) → unsigned_abs y < 2 ^ 33 → unsigned_abs (remainder y) ≤ 27853 * 2 ^ 18
@@ -88,3 +89,33 @@ same_before memory xs ys zs p q (suc n) h = p.each n (omega arith) ∙ ap (λ y.
 
 pub same_outputs : (memory : ℤ) (xs ys zs : List ℤ) → IsDeemphasis memory xs ys → IsDeemphasis memory xs zs → ys ≡ zs
 same_outputs memory xs ys zs p q = ext_get_or (pos 0) ys zs (p.count ∙ sym q.count) (λ n h. same_before memory xs ys zs p q (suc n) (omega (arith, p.count)))
+
+-- the outputs as a function meet their equations, and what meets these is that function's list
+pub output_none : (memory : ℤ) (x : ℕ → ℤ) → memory ≡ output_before memory x 0
+unfolding output_before
+output_none memory x = refl
+
+pub output_more : (memory : ℤ) (x : ℕ → ℤ) (n : ℕ) (y v : ℤ) → y ≡ output_before memory x n → v ≡ x n +ℤ remainder y → v ≡ output_before memory x (suc n)
+unfolding output_before
+output_more memory x n y v e f = f ∙ ap (λ z. x n +ℤ remainder z) e
+
+pub length-deemphasized : (memory : ℤ) (xs : List ℤ) → length (deemphasized memory xs) ≡ length xs
+unfolding deemphasized
+length-deemphasized memory xs = length-listed (length xs) (λ n. output_before memory (item xs) (suc n))
+
+item-deemphasized : (memory : ℤ) (xs : List ℤ) (n : ℕ) → n < length xs → item (deemphasized memory xs) n ≡ output_before memory (item xs) (suc n)
+unfolding deemphasized
+item-deemphasized memory xs n h = item-listed (length xs) (λ k. output_before memory (item xs) (suc k)) n h
+
+pub before-deemphasized : (memory : ℤ) (xs : List ℤ) (n : ℕ) → n ≤ length xs → before memory (deemphasized memory xs) n ≡ output_before memory (item xs) n
+before-deemphasized memory xs zero h = output_none memory (item xs)
+before-deemphasized memory xs (suc n) h = item-deemphasized memory xs n (omega arith)
+
+pub deemphasized_are : (memory : ℤ) (xs : List ℤ) → IsDeemphasis memory xs (deemphasized memory xs)
+deemphasized_are memory xs = record {
+  count = length-deemphasized memory xs;
+  each = λ n h. item-deemphasized memory xs n h ∙ sym (output_more memory (item xs) n (before memory (deemphasized memory xs) n) _ (before-deemphasized memory xs n (omega arith)) refl);
+}
+
+pub deemphasized_is : (memory : ℤ) (xs ys : List ℤ) → IsDeemphasis memory xs ys → ys ≡ deemphasized memory xs
+deemphasized_is memory xs ys h = same_outputs memory xs ys (deemphasized memory xs) h (deemphasized_are memory xs)

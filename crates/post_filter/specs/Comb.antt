@@ -1,6 +1,6 @@
 -- The comb filter on the pitch (RFC 6716, 4.3.7.1): each output adds what was put out one pitch period before.
 -- Gains, taps and weights are in units of 2^-15.
-use Rattle.std.specs.Prelude.{◌≡◌, ◌⊎◌, ℕ, zero, suc, ◌+◌, ◌-◌, ◌*◌, ◌/◌, ◌^◌, ◌<◌, ◌≤◌, nat_lt, if◌then◌else◌, ℤ, pos, neg_ℤ, ◌+ℤ◌, ◌*ℤ◌, List, length}
+use Rattle.std.specs.Prelude.{◌≡◌, ◌⊎◌, ℕ, zero, suc, ◌+◌, ◌-◌, ◌*◌, ◌/◌, ◌^◌, ◌<◌, ◌≤◌, nat_lt, if◌then◌else◌, ℤ, pos, neg_ℤ, ◌+ℤ◌, ◌*ℤ◌, List, length, slice_set}
 use Rattle.std.specs.Int.{int_max, int_min}
 use Rattle.celt_base.specs.declared.state.Setting.{Setting}
 use Rattle.celt_tables.specs.Tables.{window_entry}
@@ -73,3 +73,18 @@ pub record AreOutputs (added : ℕ → List ℤ → ℤ) (at n : ℕ) (old new :
 -- the outputs of the comb filter
 abbrev pub AreCombed : Setting → Setting → ℕ → ℕ → List ℤ → List ℤ → Type 0
 AreCombed from to at n old new = AreOutputs (λ i vs. term from to i vs (at + i)) at n old new
+
+-- a list with n outputs from place at on, put one after the other
+unfoldable pub outputs : (ℕ → List ℤ → ℤ) → ℕ → ℕ → List ℤ → List ℤ
+outputs added at zero xs = xs
+outputs added at (suc n) xs =
+    slice_set (outputs added at n xs) (at + n) (limited (item (outputs added at n xs) (at + n) +ℤ added n (outputs added at n xs)))
+
+-- the list with the outputs of the comb filter
+abbrev pub combed : Setting → Setting → ℕ → ℕ → List ℤ → List ℤ
+combed from to at n xs = outputs (λ i vs. term from to i vs (at + i)) at n xs
+
+-- A frame: behind 1024 outputs of the frames before, the first 120 of its n values fade from the setting "before" to
+-- "now", and the others from "now" to the frame's. A frame of 120 has no others.
+unfoldable pub filtered : Setting → Setting → Setting → ℕ → List ℤ → List ℤ
+filtered before now frame n xs = combed now frame 1144 (n - 120) (combed before now 1024 120 xs)

@@ -5,6 +5,7 @@ use Rattle.std.specs.Int.{int_shr}
 use Rattle.fixed_math.specs.Powers.{mantissa}
 use Rattle.fixed_math.specs.Rounding.{rounded}
 use Rattle.fixed_math.specs.Items.{item}
+use Rattle.post_filter.specs.declared.factor.Factor.{Factor}
 
 -- the gain as a power of two, in units of 1/1024: a dB is 1024 * log2(10) / 20 of them, and 1/256 dB is 696659 / 2^20
 unfoldable pub exponent : ℤ → ℤ
@@ -20,6 +21,11 @@ place e = unsigned_abs (e -ℤ pos 1024 *ℤ octave e)
 -- y times 2 to the power e / 1024, from units of 2^-12 to whole ones, rounded. The mantissa is in units of 2^-30.
 unfoldable pub amplified : ℤ → ℤ → ℤ
 amplified e y = rounded (y *ℤ pos (mantissa (place e))) (unsigned_abs (pos 42 -ℤ octave e))
+
+-- the factor of a gain, by which a product gives the same
+pub record IsFactor (gain : ℤ) (factor : Factor) : Type 0 where
+  pub times : factor.mantissa ≡ mantissa (place (exponent gain))
+  pub places : factor.shift ≡ unsigned_abs (pos 42 -ℤ octave (exponent gain))
 
 -- the nearest number of 16 bits
 unfoldable pub saturated : ℤ → ℤ

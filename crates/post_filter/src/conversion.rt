@@ -1,21 +1,14 @@
 //! Samples of 16 bits from the outputs of the de-emphasis (RFC 6716, section 4.3.7.2), with the header's output
 //! gain (RFC 7845, section 5.1).
-ghost use Rattle.std.specs.Prelude.{◌≡◌, ℕ, ℤ, ◌+◌, ◌*◌, ◌^◌, ◌<◌, ◌≤◌, pos, ◌-ℤ◌, ◌*ℤ◌, unsigned_abs, length, All};
-ghost use Rattle.fixed_math.specs.Powers.{mantissa};
+ghost use Rattle.std.specs.Prelude.{◌≡◌, ℕ, ℤ, ◌+◌, ◌*◌, ◌^◌, ◌<◌, ◌≤◌, pos, ◌*ℤ◌, unsigned_abs, length, All};
 ghost use Rattle.fixed_math.specs.Rounding.{rounded};
-ghost use Rattle.post_filter.specs.Samples.{exponent, octave, place, saturated, sample_of, ArePut};
+ghost use Rattle.post_filter.specs.Samples.{exponent, saturated, sample_of, IsFactor, ArePut};
 
+use crate::factor::Factor;
 use fixed_math::{Exp, mulr};
 
 /// 1/256 dB as a power of two, in units of 1/1024 (Q20).
 const STEP: i64 = 696_659;
-
-/// A gain: so many times 2^-`shift`, which also takes units of 2^-12 to whole ones.
-#[derive(Clone, Copy)]
-struct Factor {
-    mantissa: u32,
-    shift: u32,
-}
 
 /// The sample of `y`, which is in units of 2^-12, with `gain` in units of 1/256 dB: rounded to the nearest whole
 /// number, halves upwards, and saturated to 16 bits (RFC 6716, section 4.3.7.2; RFC 7845, section 5.1).
@@ -25,9 +18,9 @@ pub fn sample(exp: &Exp, y: i64, gain: i32) -> i16
     ensures { result ≡ sample_of gain y }
 {
     if gain == 0 {
-        plain(y)
+        plain_sample(y)
     } else {
-        amplified(y, factor_of(exp, gain))
+        amplified_sample(y, factor_of(exp, gain))
     }
 }
 
@@ -57,7 +50,7 @@ fn put_plain(x: &[i64], out: &mut [i16], start: usize, stride: usize)
     ensures { ArePut (pos 0) x.now start stride (length x.now) out.old out.new }
 {
     for i in 0..x.len() {
-        out[start + stride * i] = plain(x[i]);
+        out[start + stride * i] = plain_sample(x[i]);
     }
 }
 
@@ -68,31 +61,26 @@ fn put_alternate(x: &[i64], out: &mut [i16], start: usize)
     ensures { ArePut (pos 0) x.now start 2 (length x.now) out.old out.new }
 {
     for i in 0..x.len() {
-        out[start + 2 * i] = plain(x[i]);
+        out[start + 2 * i] = plain_sample(x[i]);
     }
 }
 
 // The samples with a gain's factor.
 fn put_amplified(x: &[i64], factor: Factor, out: &mut [i16], start: usize, stride: usize)
     requires sizes { All (λ v. unsigned_abs v < 2 ^ 33) x.now }
-    requires mantissa { factor.mantissa < 2 ^ 31 }
-    requires shift { (21 ≤ factor.shift) × (factor.shift ≤ 64) }
     requires stride { 1 ≤ stride }
     requires room { (i : ℕ) → i < length x.now → start + stride * i < length out.old }
-    ensures { (gain : ℤ) → factor.mantissa ≡ mantissa (place (exponent gain)) → factor.shift ≡ unsigned_abs (pos 42 -ℤ octave (exponent gain)) → ArePut gain x.now start stride (length x.now) out.old out.new }
+    ensures { (gain : ℤ) → IsFactor gain factor → ArePut gain x.now start stride (length x.now) out.old out.new }
 {
     for i in 0..x.len() {
-        out[start + stride * i] = amplified(x[i], factor);
+        out[start + stride * i] = amplified_sample(x[i], factor);
     }
 }
 
-// The factor of a gain.
-fn factor_of(exp: &Exp, gain: i32) -> Factor
+/// The factor of `gain`, which is in units of 1/256 dB.
+pub fn factor_of(exp: &Exp, gain: i32) -> Factor
     requires { unsigned_abs gain ≤ 32768 }
-    ensures mantissa { result.mantissa ≡ mantissa (place (exponent gain)) }
-    ensures size { result.mantissa < 2 ^ 31 }
-    ensures shift { result.shift ≡ unsigned_abs (pos 42 -ℤ octave (exponent gain)) }
-    ensures range { (21 ≤ result.shift) × (result.shift ≤ 64) }
+    ensures { IsFactor gain result }
 {
     let e = exponent_of(gain);
     let octave = e >> 10;
@@ -111,29 +99,26 @@ fn exponent_of(gain: i32) -> i64
     mulr(gain as i64, STEP, 20)
 }
 
-// The sample of `y` with gain 0, for which no product is needed.
-fn plain(y: i64) -> i16
+/// The sample of `y` with gain 0, as `sample` gives it, for which no product is needed.
+pub fn plain_sample(y: i64) -> i16
     requires { unsigned_abs y < 2 ^ 33 }
     ensures { result ≡ sample_of (pos 0) y }
 {
     narrowed_word(((y + 2048) >> 12) as i32)
 }
 
-// The sample of `y` with a gain's factor.
-fn amplified(y: i64, factor: Factor) -> i16
-    requires size { unsigned_abs y < 2 ^ 33 }
-    requires mantissa { factor.mantissa < 2 ^ 31 }
-    requires shift { (21 ≤ factor.shift) × (factor.shift ≤ 64) }
-    ensures { result ≡ saturated (rounded (y *ℤ pos factor.mantissa) factor.shift) }
+/// The sample of `y` with a gain's factor, as `sample` gives it with that gain.
+pub fn amplified_sample(y: i64, factor: Factor) -> i16
+    requires { unsigned_abs y < 2 ^ 33 }
+    ensures value { result ≡ saturated (rounded (y *ℤ pos factor.mantissa) factor.shift) }
+    ensures sample { (gain : ℤ) → IsFactor gain factor → result ≡ sample_of gain y }
 {
     narrowed(product(y, factor))
 }
 
 // `y` times a gain's factor, rounded.
 fn product(y: i64, factor: Factor) -> i64
-    requires size { unsigned_abs y < 2 ^ 33 }
-    requires mantissa { factor.mantissa < 2 ^ 31 }
-    requires shift { (21 ≤ factor.shift) × (factor.shift ≤ 64) }
+    requires { unsigned_abs y < 2 ^ 33 }
     ensures { result ≡ rounded (y *ℤ pos factor.mantissa) factor.shift }
 {
     let half: i128 = 1 << (factor.shift - 1);

@@ -1,7 +1,7 @@
 //! The de-emphasis filter (RFC 6716, section 4.3.7.2), which undoes the encoder's pre-emphasis.
 ghost use Rattle.std.specs.Prelude.{◌≡◌, ℕ, ◌^◌, ◌<◌, ◌≤◌, ◌+ℤ◌, unsigned_abs, slice_set, length, All};
 ghost use Rattle.fixed_math.specs.Items.{item};
-ghost use Rattle.post_filter.specs.Deemphasis.{before, remainder, IsDeemphasis};
+ghost use Rattle.post_filter.specs.Deemphasis.{before, remainder, IsDeemphasis, deemphasized};
 
 use fixed_math::mulr;
 
@@ -15,6 +15,7 @@ pub fn deemphasis(x: &mut [i64], memory: &mut i64)
     requires items { All (λ v. unsigned_abs v ≤ 2 ^ 30) x.old }
     requires memory { unsigned_abs memory.old < 2 ^ 33 }
     ensures value { IsDeemphasis memory.old x.old x.new }
+    ensures list { x.new ≡ deemphasized memory.old x.old }
     ensures memory { memory.new ≡ before memory.old x.new (length x.old) }
     ensures sizes { All (λ v. unsigned_abs v < 2 ^ 33) x.new }
     ensures memory_size { unsigned_abs memory.new < 2 ^ 33 }
@@ -42,13 +43,13 @@ fn put_output(x: &mut [i64], p: usize, y: i64) -> i64
     ensures size { unsigned_abs result < 2 ^ 33 }
     ensures list { x.new ≡ slice_set x.old p result }
 {
-    let put = output(x[p], y);
+    let put = next_output(x[p], y);
     x[p] = put;
     put
 }
 
-// The output for an item, from the output before it.
-fn output(x: i64, y: i64) -> i64
+/// The output for the item `x`, which is `x` and what remains of `y`, the output before it.
+pub fn next_output(x: i64, y: i64) -> i64
     requires item { unsigned_abs x ≤ 2 ^ 30 }
     requires before { unsigned_abs y < 2 ^ 33 }
     ensures value { result ≡ x +ℤ remainder y }

@@ -1,10 +1,10 @@
 //! Laws of the definitions alone. No body does anything.
-ghost use Rattle.std.specs.Prelude.{◌≡◌, ℕ, ℤ, List, ◌+◌, ◌*◌, ◌%◌, ◌^◌, ◌<◌, ◌≤◌, pos, negsuc, neg_ℤ, ◌+ℤ◌, ◌*ℤ◌, ◌≤ℤ◌, ◌<ℤ◌, unsigned_abs};
+ghost use Rattle.std.specs.Prelude.{◌≡◌, ℕ, ℤ, List, ◌+◌, ◌*◌, ◌%◌, ◌^◌, ◌<◌, ◌≤◌, pos, negsuc, neg_ℤ, ◌+ℤ◌, ◌*ℤ◌, ◌≤ℤ◌, ◌<ℤ◌, unsigned_abs, length};
 ghost use Rattle.celt_base.specs.declared.state.Setting.{Setting};
 ghost use Rattle.fixed_math.specs.Items.{item};
 ghost use Rattle.fixed_math.specs.Rounding.{rounded};
-ghost use Rattle.post_filter.specs.Comb.{scaled, centre_tap, near_tap, far_tap, centre, near, far, fade, term, alone, limited, AreCombed};
-ghost use Rattle.post_filter.specs.Deemphasis.{IsDeemphasis};
+ghost use Rattle.post_filter.specs.Comb.{scaled, centre_tap, near_tap, far_tap, centre, near, far, fade, term, alone, limited, AreCombed, combed};
+ghost use Rattle.post_filter.specs.Deemphasis.{before, IsDeemphasis, output_before, deemphasized};
 ghost use Rattle.post_filter.specs.Samples.{octave, place, amplified, exponent, saturated};
 
 /// The taps of each tapset, those beside the period counted twice, add up to the whole (Q15), and with a setting's gain
@@ -15,9 +15,12 @@ pub fn law_taps()
     ensures product { (a b : ℕ) → pos (scaled a b) ≡ rounded (pos a *ℤ pos b) 15 }
 {}
 
-/// For a list of values, a place and two settings there is at most one list of outputs of the comb filter.
+/// For a list of values, a place and two settings there is at most one list of outputs of the comb filter; where the
+/// list has the places there is one, and it is what the outputs come to that are put one after the other.
 pub fn law_comb()
-    ensures { (from to : Setting) (at n : ℕ) (xs ys zs : List ℤ) → 1024 ≤ at → AreCombed from to at n xs ys → AreCombed from to at n xs zs → ys ≡ zs }
+    ensures met { (from to : Setting) (at n : ℕ) (xs : List ℤ) → 1024 ≤ at → at + n ≤ length xs → AreCombed from to at n xs (combed from to at n xs) }
+    ensures fixed { (from to : Setting) (at n : ℕ) (xs ys : List ℤ) → 1024 ≤ at → at + n ≤ length xs → AreCombed from to at n xs ys → ys ≡ combed from to at n xs }
+    ensures one { (from to : Setting) (at n : ℕ) (xs ys zs : List ℤ) → 1024 ≤ at → AreCombed from to at n xs ys → AreCombed from to at n xs zs → ys ≡ zs }
 {}
 
 /// A fade never falls; from place 120 on it is over, and the new setting adds what it adds alone. So it does at each
@@ -44,9 +47,13 @@ pub fn law_limited()
     ensures low { (z : ℤ) → z <ℤ neg_ℤ (pos (2 ^ 30)) → limited z ≡ neg_ℤ (pos (2 ^ 30)) }
 {}
 
-/// For a memory and a list of items there is at most one list of outputs.
+/// For a memory and a list of items there is one list of outputs, and it is what the recursion gives. The last of them
+/// is what the next item finds.
 pub fn law_deemphasis()
-    ensures { (memory : ℤ) (xs ys zs : List ℤ) → IsDeemphasis memory xs ys → IsDeemphasis memory xs zs → ys ≡ zs }
+    ensures met { (memory : ℤ) (xs : List ℤ) → IsDeemphasis memory xs (deemphasized memory xs) }
+    ensures fixed { (memory : ℤ) (xs ys : List ℤ) → IsDeemphasis memory xs ys → ys ≡ deemphasized memory xs }
+    ensures last { (memory : ℤ) (xs : List ℤ) → before memory (deemphasized memory xs) (length xs) ≡ output_before memory (item xs) (length xs) }
+    ensures one { (memory : ℤ) (xs ys zs : List ℤ) → IsDeemphasis memory xs ys → IsDeemphasis memory xs zs → ys ≡ zs }
 {}
 
 /// An exponent is its octave, 1024 to each, and a place below 1024. With gain 0 the product is the item rounded

@@ -6,14 +6,16 @@
 mod conversion;
 mod echoes;
 mod emphasis;
+mod factor;
 mod laws;
 mod pitch;
 mod taps;
 #[cfg(test)]
 mod tests;
 
-pub use conversion::{sample, samples};
-pub use emphasis::deemphasis;
+pub use conversion::{amplified_sample, factor_of, plain_sample, sample, samples};
+pub use emphasis::{deemphasis, next_output};
+pub use factor::Factor;
 pub use laws::{
     law_amplified, law_comb, law_deemphasis, law_fade, law_limited, law_saturated, law_taps,
     law_term,

@@ -3,7 +3,7 @@
 ghost use Rattle.std.specs.Prelude.{◌≡◌, ℕ, ◌+◌, ◌-◌, ◌*◌, ◌^◌, ◌<◌, ◌≤◌, ℤ, pos, ◌+ℤ◌, ◌-ℤ◌, unsigned_abs, List, length, All, true, if◌then◌else◌, min};
 ghost use Rattle.fixed_math.specs.Items.{item};
 ghost use Rattle.fixed_math.specs.Rounding.{rounded};
-ghost use Rattle.post_filter.specs.Comb.{echo, term, alone, limited, AreOutputs, AreCombed};
+ghost use Rattle.post_filter.specs.Comb.{echo, term, alone, limited, AreOutputs, AreCombed, combed};
 
 use crate::echoes::{echo_three, echo_two, faded_term, rounded_share, steady_term};
 use crate::taps::{Taps, fade_at, taps_of};
@@ -26,6 +26,7 @@ pub fn comb(buf: &mut [i64], at: usize, n: usize, from: Setting, to: Setting)
     requires earlier { (p : ℕ) → p < at → unsigned_abs (item buf.old p) ≤ 2 ^ 30 }
     requires values { (p : ℕ) → at ≤ p → p < at + n → unsigned_abs (item buf.old p) < 2 ^ 47 }
     ensures value { AreCombed from to at n buf.old buf.new }
+    ensures list { buf.new ≡ combed from to at n buf.old }
     ensures sizes { (p : ℕ) → p < at + n → unsigned_abs (item buf.new p) ≤ 2 ^ 30 }
 {
     let faded = places_of(n, is_steady(from, to));

@@ -2,7 +2,10 @@
 ghost use Rattle.std.specs.Prelude.{ℕ, ◌^◌, ◌<◌, ◌≤◌, All, unsigned_abs};
 ghost use Rattle.fixed_math.specs.Items.{item};
 
-use super::{comb, deemphasis, sample, samples, subtract};
+use super::{
+    amplified_sample, comb, deemphasis, factor_of, next_output, plain_sample, sample, samples,
+    subtract,
+};
 use celt_base::state::Setting;
 use fixed_math::{Exp, noise};
 
@@ -33,6 +36,9 @@ fn filters_and_samples(rt: HostRuntime) {
     assert_eq!(rt; memory, -4_255_688_798);
     deemphasis(&mut [], &mut memory);
     assert_eq!(rt; memory, -4_255_688_798);
+    assert_eq!(rt; next_output(0, 32_768), 27_853);
+    assert_eq!(rt; next_output(100, 23_675), 20_224);
+    assert_eq!(rt; next_output(-1_073_741_824, -8_589_934_591), -8_375_238_655);
 
     let exp = Exp::new();
     for (y, gain, want) in [
@@ -67,6 +73,15 @@ fn filters_and_samples(rt: HostRuntime) {
         assert!(rt; y.unsigned_abs() < 8_589_934_592);
         assert!(rt; gain.unsigned_abs() <= 32_768);
         assert_eq!(rt; sample(&exp, y, gain), want, "{y} with {gain}");
+        let factor = factor_of(&exp, gain);
+        assert_eq!(rt;
+            amplified_sample(y, factor),
+            want,
+            "{y} with the factor of {gain}"
+        );
+        if gain == 0 {
+            assert_eq!(rt; plain_sample(y), want, "{y}");
+        }
     }
 
     let mut out = [7i16; 6];

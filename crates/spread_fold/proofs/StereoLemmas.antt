@@ -1,16 +1,17 @@
 -- The two channels, item by item.
-use Rattle.std.proofs.Common.{◌≡◌, ◌≢◌, ◌⊎◌, ℕ, ◌+◌, ◌*◌, ◌^◌, ◌<◌, ◌≤◌, sym, inl, inr, arith, refl, ap, ◌∙◌, List, length, Bool, true, false}
+use Rattle.std.proofs.Common.{◌≡◌, ◌≢◌, ◌⊎◌, ℕ, ◌+◌, ◌*◌, ◌^◌, ◌<◌, ◌≤◌, sym, subst, inl, inr, arith, refl, ap, ◌∙◌, List, length, Bool, true, false}
 use Rattle.std.specs.Prelude.{ℤ, pos, ◌+ℤ◌, ◌-ℤ◌, ◌*ℤ◌, ◌≤ℤ◌, unsigned_abs, slice_set, All, nat_lt, ◌||◌, if◌then◌else◌}
 use Rattle.std.proofs.lemmas.Int.{ints}
-use Rattle.std.proofs.lemmas.Bool.{lt-ltb, le-ltb}
+use Rattle.std.proofs.lemmas.Bool.{lt-ltb, le-ltb, cases_lt}
 use Rattle.std.proofs.lemmas.List.{get_or-set_other}
 use Rattle.std.proofs.lemmas.List.FromFn.{sum_by-map-range_with_len_more}
 use Rattle.fixed_math.specs.Rounding.{rounded}
 use Rattle.fixed_math.specs.Unit.{square, energy, unit_of}
 use Rattle.fixed_math.proofs.RoundingLemmas.{product_rounded}
+use Rattle.fixed_math.proofs.UnitLemmas.{energy_wide, unit_size}
 use Rattle.fixed_math.specs.Items.{item, listed}
 use Rattle.spread_fold.specs.Stereo.{channel_item, channel, is_faint, merged}
-use Rattle.fixed_math.proofs.ItemLemmas.{put_next, listed_from, all_listed, item_below}
+use Rattle.fixed_math.proofs.ItemLemmas.{put_next, length-listed, listed_from, all_listed, item_below}
 
 -- the sum of the squares so far
 pub record Summed (i sum : ℕ) (f : ℕ → ℤ) : Type 0 where
@@ -100,3 +101,29 @@ merged_whole mid right xs ys l m =
     let a : nat_lt (energy (channel mid false xs ys)) 161061 ≡ false = le-ltb _ _ l in
     let b : nat_lt (energy (channel mid true xs ys)) 161061 ≡ false = le-ltb _ _ m in
     rw (a, b) refl
+
+-- a merged channel's items are those of the middle, or at most 2^14 in size
+length-channel : (mid : ℤ) (right : Bool) (xs ys : List ℤ) → length (channel mid right xs ys) ≡ length xs
+unfolding channel
+length-channel mid right xs ys = length-listed (length xs) (λ i. channel_item mid right (item xs i) (item ys i))
+
+some_energy : (mid : ℤ) (right : Bool) (xs ys : List ℤ) → 161061 ≤ energy (channel mid false xs ys) → 161061 ≤ energy (channel mid true xs ys) → 0 < energy (channel mid right xs ys)
+some_energy mid false xs ys l g = omega arith
+some_energy mid true xs ys l g = omega arith
+
+unit_within : (m : ℕ) (xs : List ℤ) → 2 ^ 14 ≤ m → All (λ v. 2 * unsigned_abs v ≤ 32768) xs → All (λ v. unsigned_abs v ≤ m) xs
+unit_within m xs s h = λ k d l. omega (arith, h k d l)
+
+pub merged_size : (mid : ℤ) (right : Bool) (xs ys zs : List ℤ) (m : ℕ) → pos 0 ≤ℤ mid → mid ≤ℤ pos 32767 → length xs ≤ 176 → All (λ v. unsigned_abs v < 2 ^ 20) xs → All (λ v. unsigned_abs v < 2 ^ 20) ys → zs ≡ merged mid right xs ys → 2 ^ 14 ≤ m → All (λ v. unsigned_abs v ≤ m) xs → All (λ v. unsigned_abs v ≤ m) zs
+merged_size mid right xs ys zs m low high n a b e s h = subst (All (λ v. unsigned_abs v ≤ m)) (sym e)
+    (elim (cases_lt (energy (channel mid false xs ys)) 161061) [
+      | inl l ↦ subst (All (λ v. unsigned_abs v ≤ m)) (merged_faint mid right xs ys (inl l)) h
+      | inr l ↦ elim (cases_lt (energy (channel mid true xs ys)) 161061) [
+        | inl g ↦ subst (All (λ v. unsigned_abs v ≤ m)) (merged_faint mid right xs ys (inr g)) h
+        | inr g ↦
+            let us : List ℤ = channel mid right xs ys in
+            let wide = energy_wide us (omega (arith, length-channel mid right xs ys)) (channel_size mid right xs ys us low high a b refl) in
+            subst (All (λ v. unsigned_abs v ≤ m)) (merged_whole mid right xs ys l g)
+            (unit_within m (unit_of (pos 32768) us) s (unit_size (pos 32768) us (omega (arith, ints)) (some_energy mid right xs ys l g) wide))
+      ]
+    ])

@@ -27,7 +27,7 @@ struct Energies {
 
 /// Makes the left and the right channel of the middle `x` and the side `y`, where `mid` is the middle's weight
 /// (Q15): the difference and the sum, each brought to unit length. Where one of them has an energy below 161061,
-/// both become the middle.
+/// both become the middle. So no item is greater in size than 2^14 and the greatest of the middle.
 pub fn merge(x: &mut [i64], y: &mut [i64], mid: i64)
     requires count { length x.old ≤ 176 }
     requires lengths { length y.old ≡ length x.old }
@@ -37,6 +37,8 @@ pub fn merge(x: &mut [i64], y: &mut [i64], mid: i64)
     requires side { All (λ v. unsigned_abs v < 2 ^ 20) y.old }
     ensures left { x.new ≡ merged mid false x.old y.old }
     ensures right { y.new ≡ merged mid true x.old y.old }
+    ensures left_size { (m : ℕ) → 2 ^ 14 ≤ m → All (λ v. unsigned_abs v ≤ m) x.old → All (λ v. unsigned_abs v ≤ m) x.new }
+    ensures right_size { (m : ℕ) → 2 ^ 14 ≤ m → All (λ v. unsigned_abs v ≤ m) x.old → All (λ v. unsigned_abs v ≤ m) y.new }
 {
     let energies = energies_of(x, y, mid);
     if energies.left < FAINT {

@@ -1,18 +1,18 @@
 -- The rows of the order of Hadamard sequences, and blocks and places.
 use Rattle.std.proofs.Common.{◌≡◌, ℕ, zero, suc, ◌+◌, ◌-◌, ◌*◌, ◌/◌, ◌%◌, ◌<◌, ◌≤◌, sym, subst, inl, inr, arith, refl, ap, ◌∙◌, List, [], ◌∷◌, length, Bool, true, false, ◌&&◌}
-use Rattle.std.specs.Prelude.{ℤ, IsTrue, nat_eq, nat_lt, slice_index}
+use Rattle.std.specs.Prelude.{ℤ, IsTrue, nat_eq, nat_lt, slice_index, unsigned_abs, All}
 use Rattle.std.proofs.lemmas.Nat.{div-mul-add, mod-mul-add, mul-add-lt, mod_below, div_below, div-add-mod'}
 use Rattle.std.proofs.lemmas.Bool.{cases_lt, and_parts, eqb-true, ltb-true}
 use Rattle.fixed_math.specs.Items.{item}
 use Rattle.tf_change.specs.Order.{HasRow, hadamard_rows, index_of, place_of, block_at, ordered, unordered}
-use Rattle.fixed_math.proofs.ItemLemmas.{item-listed, length-listed, same_items}
+use Rattle.fixed_math.proofs.ItemLemmas.{item-listed, length-listed, same_items, all_listed, item_within}
 
--- a test that holds of each number below a bound
+-- a test that holds of each number below a bound, and what it says of one of them
 unfoldable pub holds_below : (ℕ → Bool) → ℕ → Bool
 holds_below p zero = true
 holds_below p (suc n) = p n && holds_below p n
 
-holds-at : (p : ℕ → Bool) (n k : ℕ) → holds_below p n ≡ true → k < n → p k ≡ true
+pub holds-at : (p : ℕ → Bool) (n k : ℕ) → holds_below p n ≡ true → k < n → p k ≡ true
 unfolding holds_below
 holds-at p zero k e h = absurd (omega arith)
 holds-at p (suc n) k e h = elim (cases_lt k n) [
@@ -164,6 +164,17 @@ there xs n s hadamard r e =
         let b = item-unordered n s hadamard xs (p % n) (block_at hadamard s (p / n)) e f.block_below j in
         let c = ap (λ q. item xs (q * n + p % n)) f.there in
         subst (λ q. item (ordered n s hadamard (unordered n s hadamard xs)) q ≡ item xs q) (div-add-mod' p n) (a ∙ b ∙ c)
+
+-- each order keeps what bounds all items
+pub ordered_size : (n s m : ℕ) (hadamard : Bool) (xs ys : List ℤ) → ys ≡ ordered n s hadamard xs → All (λ v. unsigned_abs v ≤ m) xs → All (λ v. unsigned_abs v ≤ m) ys
+unfolding ordered
+ordered_size n s m hadamard xs ys e h =
+    all_listed (λ v. unsigned_abs v ≤ m) ys (length xs) (λ p. item xs (p % n * s + block_at hadamard s (p / n))) e (λ p l. item_within xs m _ h)
+
+pub unordered_size : (n s m : ℕ) (hadamard : Bool) (xs ys : List ℤ) → ys ≡ unordered n s hadamard xs → All (λ v. unsigned_abs v ≤ m) xs → All (λ v. unsigned_abs v ≤ m) ys
+unfolding unordered
+unordered_size n s m hadamard xs ys e h =
+    all_listed (λ v. unsigned_abs v ≤ m) ys (length xs) (λ p. item xs (place_of hadamard s (p % s) * n + p / s)) e (λ p l. item_within xs m _ h)
 
 -- the rows by doubling
 unfoldable pub double_test : ℕ → ℕ → Bool

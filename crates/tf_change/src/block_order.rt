@@ -1,7 +1,7 @@
 //! The two orders of the coefficients of short blocks (RFC 6716, section 4.3.4.5): interleaved, as the transform
 //! gives them, with the first of each block, then the second of each; and block by block, where the blocks can
 //! stand in the order of Hadamard sequences.
-ghost use Rattle.std.specs.Prelude.{◌≡◌, ℕ, ◌+◌, ◌*◌, ◌<◌, ◌≤◌, length, IsTrue};
+ghost use Rattle.std.specs.Prelude.{◌≡◌, ℕ, ◌+◌, ◌*◌, ◌<◌, ◌≤◌, unsigned_abs, length, All, IsTrue};
 ghost use Rattle.fixed_math.specs.Items.{item};
 ghost use Rattle.tf_change.specs.Order.{HasRow, place_of, block_at, ordered, unordered};
 
@@ -30,7 +30,8 @@ pub fn order(x: &[i64], out: &mut [i64], n0: usize, stride: usize, hadamard: boo
     requires items { length x.now ≡ n0 * stride }
     requires room { length out.old ≡ n0 * stride }
     requires row { IsTrue hadamard → HasRow stride }
-    ensures { out.new ≡ ordered n0 stride hadamard x.now }
+    ensures value { out.new ≡ ordered n0 stride hadamard x.now }
+    ensures size { (m : ℕ) → All (λ v. unsigned_abs v ≤ m) x.now → All (λ v. unsigned_abs v ≤ m) out.new }
 {
     for k in 0..stride {
         take_block(x, out, k * n0, n0, block_of(k, stride, hadamard), stride);
@@ -45,7 +46,8 @@ pub fn unorder(x: &[i64], out: &mut [i64], n0: usize, stride: usize, hadamard: b
     requires items { length x.now ≡ n0 * stride }
     requires room { length out.old ≡ n0 * stride }
     requires row { IsTrue hadamard → HasRow stride }
-    ensures { out.new ≡ unordered n0 stride hadamard x.now }
+    ensures value { out.new ≡ unordered n0 stride hadamard x.now }
+    ensures size { (m : ℕ) → All (λ v. unsigned_abs v ≤ m) x.now → All (λ v. unsigned_abs v ≤ m) out.new }
 {
     for j in 0..n0 {
         take_row(x, out, j, n0, stride, hadamard);

@@ -30,34 +30,18 @@ overflow_cast-result c =
     let h = t.left_high in
     simp to_z-of_z (search rules)
 
-pub returns-clause-mantissa : goal.returns-clause-mantissa
-unfolding place octave
-returns-clause-mantissa c =
-    let r : ℤ = c.exponent_of-e.result in
-    let t = factor_steps r c.exponent_of-e.ensures.size in
-    let fr : FitsSigned w64 r = search rules in
-    let u = t.octave_fits in
-    let v = t.whole in
-    let w = t.behind in
-    let e : c.mant.result ≡ mantissa (unsigned_abs (r -ℤ pos 1024 *ℤ int_shr r 10)) = simp to_z-of_z at c.mant.ensures.value in
-    let fg = c.ranges.gain in
-    let exponent-is : r ≡ exponent c.args.gain = simp to_z-of_z at c.exponent_of-e.ensures.value in
-    e ∙ ap (λ z. mantissa (unsigned_abs (z -ℤ pos 1024 *ℤ int_shr z 10))) exponent-is
-
-pub returns-clause-shift : goal.returns-clause-shift
-unfolding octave
-returns-clause-shift c =
+pub invariant_of-result-clause-least_shift : goal.invariant_of-result-clause-least_shift
+invariant_of-result-clause-least_shift c =
     let r : ℤ = c.exponent_of-e.result in
     let t = factor_steps r c.exponent_of-e.ensures.size in
     let fr : FitsSigned w64 r = search rules in
     let u = t.octave_fits in
     let w = t.left in
-    let fg = c.ranges.gain in
-    let exponent-is : r ≡ exponent c.args.gain = simp to_z-of_z at c.exponent_of-e.ensures.value in
-    simp to_z-of_z (ap (λ z. unsigned_abs (pos 42 -ℤ int_shr z 10)) exponent-is)
+    let l = t.left_low in
+    simp to_z-of_z (omega (arith, ints))
 
-pub returns-clause-range : goal.returns-clause-range
-returns-clause-range c =
+pub invariant_of-result-clause-most_shift : goal.invariant_of-result-clause-most_shift
+invariant_of-result-clause-most_shift c =
     let r : ℤ = c.exponent_of-e.result in
     let t = factor_steps r c.exponent_of-e.ensures.size in
     let fr : FitsSigned w64 r = search rules in
@@ -65,4 +49,23 @@ returns-clause-range c =
     let w = t.left in
     let l = t.left_low in
     let h = t.left_high in
-    simp to_z-of_z ((omega (arith, ints), omega (arith, ints)))
+    simp to_z-of_z (omega (arith, ints))
+
+pub returns : goal.returns
+unfolding place octave
+returns c =
+    let r : ℤ = c.exponent_of-e.result in
+    let t = factor_steps r c.exponent_of-e.ensures.size in
+    let fr : FitsSigned w64 r = search rules in
+    let u = t.octave_fits in
+    let v = t.whole in
+    let w = t.behind in
+    let x = t.left in
+    let fg = c.ranges.gain in
+    let exponent-is : r ≡ exponent c.args.gain = simp to_z-of_z at c.exponent_of-e.ensures.value in
+    let e : c.mant.result ≡ mantissa (unsigned_abs (r -ℤ pos 1024 *ℤ int_shr r 10)) = simp to_z-of_z at c.mant.ensures.value in
+    let p : unsigned_abs (pos 42 -ℤ int_shr r 10) ≡ unsigned_abs (pos 42 -ℤ int_shr (exponent c.args.gain) 10) = ap (λ z. unsigned_abs (pos 42 -ℤ int_shr z 10)) exponent-is in
+    record {
+      times = e ∙ ap (λ z. mantissa (unsigned_abs (z -ℤ pos 1024 *ℤ int_shr z 10))) exponent-is;
+      places = simp to_z-of_z p;
+    }

@@ -5,7 +5,7 @@ use Rattle.post_filter.proofs.conversion.product.Goals as goal
 pub overflow_add-result : goal.overflow_add-result
 overflow_add-result c =
     let fy = c.ranges.y in
-    let t = wide_steps c.args.y c.args.factor.mantissa c.args.factor.shift c.requires.size c.requires.mantissa c.requires.shift.0 c.requires.shift.1 in
+    let t = wide_steps c.args.y c.args.factor.mantissa c.args.factor.shift c.requires c.args.factor.most_mantissa c.args.factor.least_shift c.args.factor.most_shift in
     let a = t.narrow in
     let m = t.factor in
     let b = t.product in
@@ -15,7 +15,7 @@ overflow_add-result c =
 pub overflow_cast-result-4 : goal.overflow_cast-result-4
 overflow_cast-result-4 c =
     let fy = c.ranges.y in
-    let t = wide_steps c.args.y c.args.factor.mantissa c.args.factor.shift c.requires.size c.requires.mantissa c.requires.shift.0 c.requires.shift.1 in
+    let t = wide_steps c.args.y c.args.factor.mantissa c.args.factor.shift c.requires c.args.factor.most_mantissa c.args.factor.least_shift c.args.factor.most_shift in
     let a = t.narrow in
     let m = t.factor in
     let b = t.product in
@@ -27,7 +27,7 @@ overflow_cast-result-4 c =
 pub returns : goal.returns
 returns c =
     let fy = c.ranges.y in
-    let t = wide_steps c.args.y c.args.factor.mantissa c.args.factor.shift c.requires.size c.requires.mantissa c.requires.shift.0 c.requires.shift.1 in
+    let t = wide_steps c.args.y c.args.factor.mantissa c.args.factor.shift c.requires c.args.factor.most_mantissa c.args.factor.least_shift c.args.factor.most_shift in
     let a = t.narrow in
     let m = t.factor in
     let b = t.product in

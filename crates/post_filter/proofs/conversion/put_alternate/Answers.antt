@@ -14,10 +14,10 @@ loop-i-preserved c =
     let xs : List ℤ = c.args.x.now in
     let i : ℕ = c.loop-i.i in
     let x : ℤ = get_or xs i (pos 0) in
-    let r : ℤ = c.plain.result in
+    let r : ℤ = c.plain_sample.result in
     let fx : FitsSigned w64 x = search rules in
     let fr : FitsSigned w16 r = search rules in
-    let e : r ≡ sample_of (pos 0) x = c.plain.ensures ∙ ap (sample_of (pos 0)) (to_z-of_z w64 x fx) in
+    let e : r ≡ sample_of (pos 0) x = c.plain_sample.ensures ∙ ap (sample_of (pos 0)) (to_z-of_z w64 x fx) in
     subst (λ v. ArePut (pos 0) xs c.args.start 2 (i + 1) c.args.out.now (slice_set c.loop-i.out (c.args.start + 2 * i) v)) (sym (to_z-of_z w16 r fr))
     (put_more (pos 0) xs c.args.start 2 i c.args.out.now c.loop-i.out r (omega arith) (omega (arith, c.requires.room i c.loop-i-test.true)) e c.loop-i.invariant)
 

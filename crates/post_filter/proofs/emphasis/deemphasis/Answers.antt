@@ -4,7 +4,7 @@ use Rattle.std.specs.Int.{w64, cast_signed as to_z}
 use Rattle.std.proofs.lemmas.Int.{to_z-of_z, fits_signed_from_abs}
 use Rattle.fixed_math.specs.Items.{item}
 use Rattle.post_filter.specs.Deemphasis.{remainder}
-use Rattle.post_filter.proofs.DeemphasisLemmas.{Filtered, filtered_step, filtered_sizes}
+use Rattle.post_filter.proofs.DeemphasisLemmas.{Filtered, filtered_step, filtered_sizes, filtered_end, deemphasized_is}
 use Rattle.post_filter.proofs.emphasis.deemphasis.Goals as goal
 
 pub loop-four-preserved : goal.loop-four-preserved
@@ -58,3 +58,8 @@ loop-i-preserved c =
 
 pub returns-clause-sizes : goal.returns-clause-sizes
 returns-clause-sizes c = filtered_sizes c.args.memory.now c.args.x.now c.loop-i.x c.loop-i.i (to_z w64 c.loop-i.y-bits) (omega arith) (omega (arith, c.loop-i.auto.x, c.loop-four.auto.x)) c.loop-i.invariant
+
+pub returns-clause-list : goal.returns-clause-list
+returns-clause-list c =
+    deemphasized_is c.args.memory.now c.args.x.now c.loop-i.x
+    (filtered_end c.args.memory.now c.args.x.now c.loop-i.x c.loop-i.i (to_z w64 c.loop-i.y-bits) (omega arith) (omega (arith, c.loop-i.auto.x, c.loop-four.auto.x)) c.loop-i.invariant)

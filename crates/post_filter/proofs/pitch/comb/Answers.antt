@@ -4,6 +4,7 @@ use Rattle.fixed_math.specs.Rounding.{rounded}
 use Rattle.post_filter.specs.Comb.{echo, term, AreOutputs}
 use Rattle.post_filter.proofs.EchoLemmas.{TapsOf, taps_alone, term_later, term_same}
 use Rattle.post_filter.proofs.OutputLemmas.{LooksBack, outputs_as, outputs_joined}
+use Rattle.post_filter.proofs.FilterLemmas.{combed_is}
 use Rattle.post_filter.proofs.pitch.comb.Goals as goal
 
 pub returns-clause-value : goal.returns-clause-value
@@ -30,3 +31,6 @@ returns-clause-value c =
     outputs_as (λ j vs. rounded (echo taps.centre taps.near taps.far taps.period vs (at + m + j)) 15) (λ j. added (m + j)) (at + m) k ys zs e c.comb_steady.ensures.value in
     let n : m + k ≡ c.args.n = omega (arith, c.places_of-faded.ensures.within) in
     subst (λ i. AreOutputs added at i xs zs) n (outputs_joined added at m k xs ys zs back c.comb_faded.ensures.value r)
+
+pub returns-clause-list : goal.returns-clause-list
+returns-clause-list c = combed_is c.args.from c.args.to c.args.at c.args.n c.args.buf.now c.comb_steady.new.buf c.requires.start c.requires.room (returns-clause-value c)

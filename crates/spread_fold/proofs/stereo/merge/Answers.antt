@@ -3,7 +3,7 @@ use Rattle.std.specs.Prelude.{ℤ, pos}
 use Rattle.std.proofs.lemmas.Int.{to_z-of_z}
 use Rattle.fixed_math.specs.Unit.{energy, unit_of}
 use Rattle.spread_fold.specs.Stereo.{channel}
-use Rattle.spread_fold.proofs.StereoLemmas.{merged_faint, merged_whole, channel_size}
+use Rattle.spread_fold.proofs.StereoLemmas.{merged_faint, merged_whole, channel_size, merged_size}
 use Rattle.spread_fold.proofs.stereo.merge.Goals as goal
 
 pub returns-then-energies-lt-FAINT-clause-left : goal.returns-then-energies-lt-FAINT-clause-left
@@ -75,3 +75,21 @@ unit-requires-2-clause-items c =
     let ys : List ℤ = c.args.y.now in
     let l : c.separate.new.y ≡ channel c.args.mid true xs ys = simp to_z-of_z at c.separate.ensures.right in
     channel_size c.args.mid true xs ys c.separate.new.y c.requires.mid_low c.requires.mid_high c.requires.middle c.requires.side l
+
+pub returns-then-energies-lt-FAINT-clause-left_size : goal.returns-then-energies-lt-FAINT-clause-left_size
+returns-then-energies-lt-FAINT-clause-left_size c = λ m s h. merged_size c.args.mid false c.args.x.now c.args.y.now _ m c.requires.mid_low c.requires.mid_high c.requires.count c.requires.middle c.requires.side (returns-then-energies-lt-FAINT-clause-left c) s h
+
+pub returns-then-energies-lt-FAINT-clause-right_size : goal.returns-then-energies-lt-FAINT-clause-right_size
+returns-then-energies-lt-FAINT-clause-right_size c = λ m s h. merged_size c.args.mid true c.args.x.now c.args.y.now _ m c.requires.mid_low c.requires.mid_high c.requires.count c.requires.middle c.requires.side (returns-then-energies-lt-FAINT-clause-right c) s h
+
+pub returns-then-energies-lt-FAINT-2-clause-left_size : goal.returns-then-energies-lt-FAINT-2-clause-left_size
+returns-then-energies-lt-FAINT-2-clause-left_size c = λ m s h. merged_size c.args.mid false c.args.x.now c.args.y.now _ m c.requires.mid_low c.requires.mid_high c.requires.count c.requires.middle c.requires.side (returns-then-energies-lt-FAINT-2-clause-left c) s h
+
+pub returns-then-energies-lt-FAINT-2-clause-right_size : goal.returns-then-energies-lt-FAINT-2-clause-right_size
+returns-then-energies-lt-FAINT-2-clause-right_size c = λ m s h. merged_size c.args.mid true c.args.x.now c.args.y.now _ m c.requires.mid_low c.requires.mid_high c.requires.count c.requires.middle c.requires.side (returns-then-energies-lt-FAINT-2-clause-right c) s h
+
+pub returns-clause-left_size : goal.returns-clause-left_size
+returns-clause-left_size c = λ m s h. merged_size c.args.mid false c.args.x.now c.args.y.now _ m c.requires.mid_low c.requires.mid_high c.requires.count c.requires.middle c.requires.side (returns-clause-left c) s h
+
+pub returns-clause-right_size : goal.returns-clause-right_size
+returns-clause-right_size c = λ m s h. merged_size c.args.mid true c.args.x.now c.args.y.now _ m c.requires.mid_low c.requires.mid_high c.requires.count c.requires.middle c.requires.side (returns-clause-right c) s h

@@ -5,7 +5,7 @@ use Rattle.std.proofs.lemmas.Int.{to_z-of_z, fits_signed_from_abs}
 use Rattle.fixed_math.specs.Rounding.{rounded}
 use Rattle.post_filter.specs.Deemphasis.{remainder}
 use Rattle.post_filter.proofs.DeemphasisLemmas.{output_size}
-use Rattle.post_filter.proofs.emphasis.output.Goals as goal
+use Rattle.post_filter.proofs.emphasis.next_output.Goals as goal
 
 pub returns-clause-value : goal.returns-clause-value
 unfolding remainder

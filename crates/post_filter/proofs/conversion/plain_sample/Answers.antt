@@ -5,7 +5,7 @@ use Rattle.std.proofs.lemmas.Int.{to_z-of_z}
 use Rattle.fixed_math.specs.Rounding.{rounded}
 use Rattle.post_filter.specs.Samples.{saturated}
 use Rattle.post_filter.proofs.SampleLemmas.{plain_steps, sample-plain}
-use Rattle.post_filter.proofs.conversion.plain.Goals as goal
+use Rattle.post_filter.proofs.conversion.plain_sample.Goals as goal
 
 pub returns : goal.returns
 returns c =
