@@ -242,6 +242,15 @@ refused_answer r bytes view behind front fault sound t refuses h =
     ∙ fault_stop front page more (stream (drop (length view) r.pages)).ending fault refuses)
     ∙ by_fault fault (page_lasts front page fault refuses)
 
+-- a page that was given is held no longer
+pub page_shorter : (held behind view : List ℕ) → IsTaken held behind view → length behind < length held
+page_shorter held behind view t =
+    let s = sound_of held (length view) t.whole in
+    let inside = s.inside in
+    let long = s.length_is in
+    let e : length behind ≡ length held - length view = ap length t.behind ∙ length-drop (length view) held in
+    omega arith
+
 -- the page before more bytes
 page_then : (held view more : List ℕ) → verdict held ≡ verdicts.Whole (length view) → view ≡ take (length view) held
     → stream (held ++ more) ≡ with_page (page_of view) (stream (drop (length view) held ++ more))
@@ -522,14 +531,27 @@ packet_there r bytes front i before packet lacing inside h before_is lacing_is t
       ap (λ l. slice_get l i) packets ∙ there all (omega arith)
 
 -- less than a page is shorter than the longest page
-pub need_short : (r : Reader) (bytes : List ℕ) (front : List Page) → r.fault ≡ None → verdict r.pages ≡ verdicts.Need → Holds r bytes front → length r.pages < 65307
-need_short r bytes front sound v h =
-    let small = held_small r bytes front (resumes_of r bytes front sound h) h.small in
-    let c = cut_of r.pages v in
+pub cut_short : (held : List ℕ) → AreBytes held → verdict held ≡ verdicts.Need → length held < 65307
+cut_short held small v =
+    let c = cut_of held v in
     let short = c.short in
     let s = small 26 in
-    let l = lacing-sum r.pages small in
+    let l = lacing-sum held small in
     omega arith
+
+pub need_short : (r : Reader) (bytes : List ℕ) (front : List Page) → r.fault ≡ None → verdict r.pages ≡ verdicts.Need → Holds r bytes front → length r.pages < 65307
+need_short r bytes front sound v h = cut_short r.pages (held_small r bytes front (resumes_of r bytes front sound h) h.small) v
+
+-- a settled reader has room for a byte
+pub settled_free : (r : Reader) (bytes : List ℕ) (given : ℕ) → StandsFor r bytes given → r.is_settled ≡ true → 1 ≤ 65307 - length r.pages
+settled_free r bytes given s settled =
+    let d = s.holds.drained settled in
+    let short = need_short r bytes s.front d.sound d.need s.holds in
+    omega arith
+
+-- what is behind a page is bytes
+pub behind_small : (held behind view : List ℕ) → IsTaken held behind view → AreBytes held → AreBytes behind
+behind_small held behind view t small = subst AreBytes (sym t.behind) (bytes-drop (length view) held small)
 
 -- bytes that are taken of a piece are bytes
 pub taken_small : (n : ℕ) (piece : List ℕ) → AreBytes piece → AreBytes (take n piece)

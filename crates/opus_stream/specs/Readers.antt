@@ -42,6 +42,9 @@ packets_of r = r.given.packets
 abbrev pub bytes_fed : Reader → ℕ
 bytes_fed r = r.fed
 
+abbrev pub bytes_held : Reader → ℕ
+bytes_held r = length r.pages
+
 abbrev pub free_room : Reader → ℕ
 free_room r = 65307 - length r.pages
 

@@ -1,5 +1,5 @@
 -- What the next page of the bytes that are held gives.
-use Rattle.std.specs.Prelude.{◌≡◌, ℕ, ◌+◌, List, length, take, drop, Ok, Err}
+use Rattle.std.specs.Prelude.{◌≡◌, ℕ, ◌+◌, ◌≤◌, List, length, take, drop, Ok, Err}
 use Rattle.ogg_pages.specs.declared.page.PageFault.{PageFault}
 use Rattle.ogg_pages.specs.declared.page.Verdict.TheVariants as verdicts
 use Rattle.ogg_pages.specs.Verdicts.{verdict}
@@ -24,7 +24,7 @@ pub record Same (old new : List ℕ) (page_old page_new : List ℕ) (room_old ro
 
 abbrev pub IsStep : Progress → List ℕ → List ℕ → List ℕ → List ℕ → Kept → Kept → Taken → Type 0
 IsStep p old new page_old page_new room_old room_new (Page accepted) =
-    IsTaken old new page_new × Accepts p room_old room_new (page_of page_new) (Ok accepted) × (accepted.progress.bytes ≡ p.bytes + length page_new)
+    IsTaken old new page_new × Accepts p room_old room_new (page_of page_new) (Ok accepted) × (accepted.progress.bytes ≡ p.bytes + length page_new) × (accepted.given.packets ≤ 255)
 IsStep p old new page_old page_new room_old room_new Need = (verdict old ≡ verdicts.Need) × Same old new page_old page_new room_old room_new
 IsStep p old new page_old page_new room_old room_new (Broken name) =
     ((fault : PageFault) × (verdict old ≡ verdicts.Fault fault) × (name ≡ name_of fault)) × Same old new page_old page_new room_old room_new

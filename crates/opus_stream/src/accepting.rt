@@ -56,6 +56,7 @@ fn begin(progress: Progress, page: &PageView) -> Result<Accepted, Fault>
     requires few { progress.bytes ≤ 2 ^ 48 }
     ensures answer { (room : Kept) → Accepts progress room room (page_in page.now) result }
     ensures size { IfOk result (λ accepted. accepted.progress.bytes ≡ progress.bytes + length (bytes_in page.now)) }
+    ensures few { IfOk result (λ accepted. accepted.given.packets ≤ 255) }
 {
     lacing(page);
     match head_on(page) {
@@ -77,6 +78,7 @@ fn comment(progress: Progress, room: &mut Room, page: &PageView) -> Result<Accep
     ensures answer { Accepts progress room.old room.new (page_in page.now) result }
     ensures kept { Keeps room.old room.new result }
     ensures size { IfOk result (λ accepted. accepted.progress.bytes ≡ progress.bytes + length (bytes_in page.now)) }
+    ensures few { IfOk result (λ accepted. accepted.given.packets ≤ 255) }
 {
     lacing(page);
     room.offer(front_of(page.body(), room.open_len()));
@@ -143,6 +145,7 @@ fn play(progress: Progress, room: &mut Room, page: &PageView) -> Result<Accepted
     ensures answer { Accepts progress room.old room.new (page_in page.now) result }
     ensures kept { Keeps room.old room.new result }
     ensures size { IfOk result (λ accepted. accepted.progress.bytes ≡ progress.bytes + length (bytes_in page.now)) }
+    ensures few { IfOk result (λ accepted. accepted.given.packets ≤ 255) }
 {
     let lacing = lacing(page);
     let before = room.open_len();
@@ -185,6 +188,7 @@ pub(crate) fn accept(
     ensures answer { Accepts progress room.old room.new (page_in page.now) result }
     ensures kept { Keeps room.old room.new result }
     ensures size { IfOk result (λ accepted. accepted.progress.bytes ≡ progress.bytes + length (bytes_in page.now)) }
+    ensures few { IfOk result (λ accepted. accepted.given.packets ≤ 255) }
 {
     if let Some(fault) = progress.order_fault(page) {
         return Err(fault);

@@ -39,7 +39,8 @@ pub struct StreamReader {
 }
 
 impl Model for StreamReader {
-    ghost use Rattle.std.specs.Prelude.{◌≤◌, ◌+◌, ◌^◌, length, vec_capacity};
+    ghost use Rattle.std.specs.Prelude.{◌≡◌, ◌≤◌, ◌<◌, ◌+◌, ◌^◌, true, length, vec_capacity};
+    ghost use Rattle.ogg_pages.specs.Spelling.{AreBytes};
     ghost use Rattle.opus_stream.specs.Readers.{Reader};
 
     ghost Value = { Reader };
@@ -55,17 +56,18 @@ impl Model for StreamReader {
       is_settled = r.is_settled;
     } };
 
-    ghost invariant = { λ r. (r.progress.bytes + length r.pages ≤ r.fed) × (r.fed ≤ 2 ^ 48) × (65307 ≤ vec_capacity r.page) };
+    ghost invariant = { λ r. (r.progress.bytes + length r.pages ≤ r.fed) × (r.fed ≤ 2 ^ 48) × (65307 ≤ vec_capacity r.page)
+        × (r.given.packets ≤ 255) × AreBytes r.pages × (r.is_settled ≡ true → length r.pages < 65307) };
 }
 
 impl StreamReader {
     ghost use Rattle.std.specs.Prelude.{◌≡◌, ◌≤◌, ◌<◌, ◌+◌, ◌-◌, ◌^◌, ◌++◌, ℕ, List, [], true, Option, Some, None, length, take, drop, min, slice_get, IfOk};
     ghost use Rattle.celt_base.specs.declared.status.Fault.{Fault};
     ghost use Rattle.opus_stream.specs.declared.answers.Accept.{Accept};
-    ghost use Rattle.opus_stream.specs.declared.answers.Accept.TheVariants.{Need};
+    ghost use Rattle.opus_stream.specs.declared.answers.Accept.TheVariants.{Need, Page};
     ghost use Rattle.opus_stream.specs.Tests.{is_ended};
     ghost use Rattle.opus_stream.specs.Acceptance.{answer_of, end_fault_of, given_pages, size_of, last_bytes, last_packets, last_span, head_in};
-    ghost use Rattle.opus_stream.specs.Readers.{Reader, StandsFor, IsAnswer, IsPacket, IsHeld, IsEnd, bytes_fed, free_room, is_ended_in, packets_of, given_after};
+    ghost use Rattle.opus_stream.specs.Readers.{Reader, StandsFor, IsAnswer, IsPacket, IsHeld, IsEnd, bytes_fed, bytes_held, free_room, is_ended_in, packets_of, given_after};
 
     /// A reader that was fed nothing. It reserves the room for a page, a copy of a page, and an open packet with
     /// the segments of the page that was given and of the one that is tested.
@@ -74,6 +76,7 @@ impl StreamReader {
         ensures settled { IfOk result (λ reader. reader.is_settled ≡ true) }
         ensures fed { IfOk result (λ reader. bytes_fed reader ≡ 0) }
         ensures free { IfOk result (λ reader. free_room reader ≡ 65307) }
+        ensures held { IfOk result (λ reader. bytes_held reader ≡ 0) }
     {
         let Ok(pages) = PageReader::new(alloc) else {
             return Err(OutOfMemory);
@@ -103,9 +106,11 @@ impl StreamReader {
         ensures count { result ≡ min (length piece.now) (free_room self.old) }
         ensures longer { (bytes : List ℕ) (given : ℕ) → StandsFor self.old bytes given →
             StandsFor self.new (bytes ++ take result piece.now) given }
+        ensures takes { self.old.is_settled ≡ true → 0 < length piece.now → 0 < result }
         ensures settled { result ≡ 0 → self.new.is_settled ≡ self.old.is_settled }
         ensures fed { bytes_fed self.new ≡ bytes_fed self.old + result }
         ensures free { free_room self.new ≡ free_room self.old - result }
+        ensures held { bytes_held self.new ≡ bytes_held self.old + result }
     {
         let count = self.pages.feed(piece);
         self.fed += count as u64;
@@ -119,9 +124,11 @@ impl StreamReader {
         ensures longer { (bytes : List ℕ) (given : ℕ) → StandsFor self.old bytes given →
             StandsFor self.new bytes (given_after result given) }
         ensures settled { result ≡ Need → self.new.is_settled ≡ true }
-        ensures room { (bytes : List ℕ) (given : ℕ) → StandsFor self.old bytes given → result ≡ Need → 1 ≤ free_room self.new }
+        ensures room { result ≡ Need → 1 ≤ free_room self.new }
         ensures fed { bytes_fed self.new ≡ bytes_fed self.old }
         ensures free { free_room self.old ≤ free_room self.new }
+        ensures held { bytes_held self.new ≤ bytes_held self.old }
+        ensures shorter { result ≡ Page → bytes_held self.new < bytes_held self.old }
     {
         if let Some(fault) = self.fault {
             return Accept::Fault(fault);
@@ -170,6 +177,7 @@ impl StreamReader {
     /// The number of audio packets that end on the page that was given last.
     pub fn packets(&self) -> usize
         ensures value { result ≡ packets_of self.now }
+        ensures few { result ≤ 255 }
         ensures count { (bytes : List ℕ) (given : ℕ) → StandsFor self.now bytes given →
             result ≡ length (last_packets (given_pages bytes given)) }
     {

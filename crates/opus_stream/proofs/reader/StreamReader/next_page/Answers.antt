@@ -1,4 +1,5 @@
-use Rattle.std.proofs.Common.{◌+◌, [], ◌∷◌, ◌++◌, length, refl, sym, ◌∙◌, ap, subst, arith, length-append}
+use Rattle.std.proofs.Common.{◌+◌, ◌<◌, [], ◌∷◌, ◌++◌, length, refl, sym, ◌∙◌, ap, subst, arith, length-append}
+use Rattle.ogg_pages.specs.Spelling.{AreBytes}
 use Rattle.opus_stream.specs.Acceptance.{answer_of}
 use Rattle.opus_stream.specs.Readers.{StandsFor}
 use Rattle.opus_stream.specs.contracts.reader.StreamReader.{the_view}
@@ -57,6 +58,11 @@ returns-in-Page-clause-longer c = λ bytes given s.
       holds = reading.page_holds (the_view c.self.inside) _ bytes view c.take_page.new.pages t.front c.in_default.is step.0 t.holds a.0 a.1 a.2 refl refl refl c.in_default.is refl;
     }
 
+pub returns-in-Page-clause-shorter : goal.returns-in-Page-clause-shorter
+returns-in-Page-clause-shorter c = λ h.
+    let t = c.in-Page.ensures.step.0 in
+    subst (λ r. length c.take_page.new.pages < length r.pages) c.self.view_is (reading.page_shorter c.self.inside.pages c.take_page.new.pages c.take_page.new.page.items t)
+
 pub returns-in-Need-clause-answer : goal.returns-in-Need-clause-answer
 returns-in-Need-clause-answer c = λ bytes given s.
     let t = subst (λ r. StandsFor r bytes given) (sym c.self.view_is) s in
@@ -76,12 +82,20 @@ returns-in-Need-clause-longer c = λ bytes given s.
     }
 
 pub returns-in-Need-clause-room : goal.returns-in-Need-clause-room
-returns-in-Need-clause-room c = λ bytes given s h.
-    let t = subst (λ r. StandsFor r bytes given) (sym c.self.view_is) s in
+returns-in-Need-clause-room c = λ h.
     let step = c.in-Need.ensures.step in
     let e = ap length step.1.held in
-    let f = reading.need_short (the_view c.self.inside) bytes t.front c.in_default.is step.0 t.holds in
+    let f = reading.cut_short c.self.inside.pages c.self.invariant.4 step.0 in
     omega arith
+
+pub invariant_of-self-in-Need : goal.invariant_of-self-in-Need
+invariant_of-self-in-Need c =
+    let i = c.self.invariant in
+    let inside = i.0 in
+    let step = c.in-Need.ensures.step in
+    let e = ap length step.1.held in
+    let f = reading.cut_short c.self.inside.pages i.4 step.0 in
+    (omega arith, i.1, c.in-Need.ensures.capacity, i.3, subst AreBytes (sym step.1.held) i.4, λ settled. omega arith)
 
 pub returns-in-Broken-clause-answer : goal.returns-in-Broken-clause-answer
 returns-in-Broken-clause-answer c = λ bytes given s.
