@@ -1,0 +1,9 @@
+pub mod AskSteps
+pub mod OpeningSteps
+pub mod ChangeSteps
+pub mod BoostSteps
+pub mod FrameSteps
+pub mod RecorderSteps
+pub mod ReadingSteps
+pub mod WritingSteps
+pub mod CountSteps

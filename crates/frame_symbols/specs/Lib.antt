@@ -1,0 +1,12 @@
+pub mod Askings
+pub mod Openings
+pub mod Changes
+pub mod BoostFacts
+pub mod Boosts
+pub mod Frames
+pub mod Blanks
+pub mod Held
+pub mod FrameWalks
+pub mod Recorders
+pub mod Readings
+pub mod HeldSymbols
