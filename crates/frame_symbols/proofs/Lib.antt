@@ -4,6 +4,8 @@ pub mod ChangeSteps
 pub mod BoostSteps
 pub mod FrameSteps
 pub mod RecorderSteps
+pub mod ComputedAnswers
+pub mod ComputedReadings
 pub mod ReadingSteps
 pub mod WritingSteps
 pub mod CountSteps

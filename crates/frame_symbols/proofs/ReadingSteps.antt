@@ -1,6 +1,6 @@
 -- A reading: what a walk over a reader added is the one list in order whose answers are the frame's.
 use Rattle.std.proofs.Common.{◌≡◌, ℕ, List, [], ◌∷◌, ◌++◌, length, sym, ◌∙◌, ap, subst}
-use Rattle.std.specs.Prelude.{ℤ, Option}
+use Rattle.std.specs.Prelude.{ℤ, Option, None, Some}
 use Rattle.celt_base.specs.declared.kind.Kind.{Kind}
 use Rattle.celt_base.specs.declared.question.Question.{Question}
 use Rattle.celt_base.specs.Intervals.{Interval, whole}
@@ -13,7 +13,9 @@ use Rattle.celt_base.proofs.WalkOrders.{in_order, next_after, outcome_after, one
 use Rattle.celt_base.proofs.WalkSteps.{stands_after, decided_after}
 use Rattle.celt_base.specs.WalkCalls.{ChooserCalls}
 use Rattle.frame_symbols.specs.Frames.{Sound, frame_script, first_pace}
-use Rattle.frame_symbols.specs.Readings.{IsReading, HoldsReading}
+use Rattle.frame_symbols.proofs.ComputedReadings.{read_is}
+use Rattle.frame_symbols.specs.Held.{HoldsFrame}
+use Rattle.frame_symbols.specs.Readings.{IsReading, HoldsReading, reading_of}
 use Rattle.frame_symbols.specs.Recorders.{WalkedList, answered_of}
 use Rattle.frame_symbols.specs.declared.fields.Fields.{Fields}
 use Rattle.frame_symbols.specs.declared.recorder.Answer.{Answer}
@@ -42,6 +44,32 @@ one_reading kind frame xs ys x y =
     one_list (λ before question answer. Answers frame before question answer) after_answer (λ i question a b p q. answer_determined frame i question a b p q)
     (frame_script kind (length frame)) first_pace whole xs ys
     x.order x.ends (decided_from frame whole xs x.answers) y.order y.ends (decided_from frame whole ys y.answers)
+
+-- the reading is the one that is computed
+pub computed_list : (kind : Kind) (frame : List ℕ) (list : List Answered) → IsReading kind frame list → (reading_of kind frame).list ≡ list
+unfolding reading_of
+computed_list kind frame list is = (read_is frame (frame_script kind (length frame)) first_pace whole list is.order is.ends is.answers).list_is
+
+pub computed_value : (kind : Kind) (frame : List ℕ) (list : List Answered) → IsReading kind frame list
+    → outcome (frame_script kind (length frame)) first_pace list ≡ Some (reading_of kind frame).value
+unfolding reading_of
+computed_value kind frame list is = (read_is frame (frame_script kind (length frame)) first_pace whole list is.order is.ends is.answers).value_is
+
+-- the value that there is, or another
+some_or : {A : Type 0} → Option A → A → A
+some_or None other = other
+some_or (Some value) other = value
+
+some_same : {A : Type 0} (a b : A) → Some a ≡ Some b → a ≡ b
+unfolding some_or
+some_same a b e = ap (λ o. some_or o a) e
+
+-- the fields hold what the computed reading comes to
+pub computed_holds : (kind : Kind) (frame : List ℕ) (list : List Answered) (f : Fields) → IsReading kind frame list
+    → HoldsReading kind (length frame) list f
+    → HoldsFrame kind f (reading_of kind frame).value
+computed_holds kind frame list f is held =
+    subst (HoldsFrame kind f) (some_same held.value (reading_of kind frame).value (sym held.outcome_is ∙ computed_value kind frame list is)) held.holds
 
 -- what the script of the frame added is a reading, where its answers are the frame's
 pub is_reading : (kind : Kind) (frame : List ℕ) {events : List Event} {value : Option Sound}

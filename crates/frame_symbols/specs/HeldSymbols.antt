@@ -5,7 +5,8 @@ use Rattle.celt_base.specs.Paces.{pace_of, tell_of}
 use Rattle.celt_base.specs.Questions.{Answered, interval_of}
 use Rattle.frame_symbols.specs.declared.symbols.Symbols.{Symbols}
 use Rattle.frame_symbols.specs.Blanks.{IsBlank}
-use Rattle.frame_symbols.specs.Readings.{IsReading, HoldsReading}
+use Rattle.frame_symbols.specs.Held.{HoldsFrame}
+use Rattle.frame_symbols.specs.Readings.{IsReading, HoldsReading, reading_of, range_of}
 use Rattle.frame_symbols.specs.Recorders.{answered_of}
 
 -- Symbols of no frame.
@@ -32,3 +33,6 @@ pub record AreOf (kind : Kind) (len : ℕ) (s : Symbols) : Type 0 where
 pub record AreRead (kind : Kind) (frame : List ℕ) (s : Symbols) : Type 0 where
   pub reading : IsReading kind frame (answers_in s)
   pub are : AreOf kind (length frame) s
+  pub list_is : answers_in s ≡ (reading_of kind frame).list
+  pub holds : HoldsFrame kind s.fields (reading_of kind frame).value
+  pub range_is : s.range ≡ range_of kind frame

@@ -7,6 +7,7 @@ pub mod Frames
 pub mod Blanks
 pub mod Held
 pub mod FrameWalks
+pub mod Computing
 pub mod Recorders
 pub mod Readings
 pub mod HeldSymbols

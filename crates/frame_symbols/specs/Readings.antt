@@ -2,11 +2,12 @@
 use Rattle.std.specs.Prelude.{◌≡◌, ℕ, List, [], length, Option, Some}
 use Rattle.celt_base.specs.declared.kind.Kind.{Kind}
 use Rattle.celt_base.specs.Intervals.{whole}
-use Rattle.celt_base.specs.Questions.{Answered}
+use Rattle.celt_base.specs.Questions.{Answered, interval_of}
 use Rattle.celt_base.specs.WalkCalls.{ChooserCalls}
 use Rattle.celt_base.specs.WalkOrders.{Ends, InOrder, outcome}
 use Rattle.frame_symbols.specs.declared.fields.Fields.{Fields}
 use Rattle.frame_symbols.specs.declared.recorder.Answer.{Answer}
+use Rattle.frame_symbols.specs.Computing.{ReadBy, read_by}
 use Rattle.frame_symbols.specs.Frames.{Sound, frame_script, frame_next, first_pace}
 use Rattle.frame_symbols.specs.Held.{HoldsFrame}
 use Rattle.frame_symbols.specs.Recorders.{WalkedList}
@@ -19,6 +20,14 @@ pub record IsReading (kind : Kind) (frame : List ℕ) (list : List Answered) : T
   pub order : InOrder (frame_script kind (length frame)) first_pace list
   pub ends : frame_next kind (length frame) list ≡ Ends
   pub answers : AnswersFrom frame whole list
+
+-- The reading, computed: the list, and what it comes to.
+unfoldable pub reading_of : Kind → List ℕ → ReadBy (Option Sound)
+reading_of kind frame = read_by frame (frame_script kind (length frame)) first_pace whole
+
+-- The width of the interval at its end.
+abbrev pub range_of : Kind → List ℕ → ℕ
+range_of kind frame = (interval_of (reading_of kind frame).list).width
 
 -- The fields hold what the script of a frame of `len` bytes comes to after the list.
 pub record HoldsReading (kind : Kind) (len : ℕ) (list : List Answered) (f : Fields) : Type 0 where

@@ -13,7 +13,7 @@ mod reading;
 mod recorder;
 mod symbols;
 
-pub use laws::{law_boosts_end, law_frame_questions, law_one_reading};
+pub use laws::{law_boosts_end, law_computed_reading, law_frame_questions, law_one_reading};
 pub use reading::read_frame;
 pub use recorder::Answer;
 pub use symbols::Symbols;
