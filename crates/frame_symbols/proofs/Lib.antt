@@ -1,0 +1,11 @@
+pub mod AskSteps
+pub mod OpeningSteps
+pub mod ChangeSteps
+pub mod BoostSteps
+pub mod FrameSteps
+pub mod RecorderSteps
+pub mod ComputedAnswers
+pub mod ComputedReadings
+pub mod ReadingSteps
+pub mod WritingSteps
+pub mod CountSteps

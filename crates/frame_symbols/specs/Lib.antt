@@ -1,0 +1,13 @@
+pub mod Askings
+pub mod Openings
+pub mod Changes
+pub mod BoostFacts
+pub mod Boosts
+pub mod Frames
+pub mod Blanks
+pub mod Held
+pub mod FrameWalks
+pub mod Computing
+pub mod Recorders
+pub mod Readings
+pub mod HeldSymbols
