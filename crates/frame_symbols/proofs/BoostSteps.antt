@@ -17,7 +17,7 @@ use Rattle.celt_base.specs.Walks.{Walked}
 use Rattle.celt_base.proofs.WalkSteps.{Going, start, look, walk, walk_last, end, when_true, when_false, no_walk}
 use Rattle.celt_tables.specs.Tables.{cap_of}
 use Rattle.frame_symbols.specs.declared.boosts.Band.{Band}
-use Rattle.bit_allocation.specs.Amounts.{coefficients_of}
+use Rattle.celt_tables.specs.Tables.{coefficients_of}
 use Rattle.frame_symbols.specs.Boosts.{boost_at, taken_below, boosted_below, first_weight, band_of, weight_of, may_boost, turn_script, turns_script, boosts_from, boosts_script, trim_script}
 use Rattle.frame_symbols.specs.Askings.{number_within_eighths}
 use Rattle.celt_base.specs.declared.question.Question.TheVariants.{Table}

@@ -4,7 +4,7 @@ use Rattle.std.specs.Prelude.{ℤ, pos}
 use Rattle.band_energy.specs.EnergyScripts.{coarse_script, fine_script, last_script}
 use Rattle.band_energy.proofs.EnergyLaws.{coarse_most, fine_most, last_most}
 use Rattle.bit_allocation.specs.Scripts.{allocation_script}
-use Rattle.bit_allocation.proofs.AmountLemmas.{end_most}
+use Rattle.celt_base.proofs.BandEnds.{end_most}
 use Rattle.bit_allocation.proofs.LawLemmas.{questions_law}
 use Rattle.band_plan.proofs.CountLaws.{most_bands}
 use Rattle.celt_base.specs.declared.coder.Place.{Place}

@@ -1,7 +1,8 @@
 -- The boosts of the bands (RFC 6716, section 4.3.3), in eighths of a bit, and the trim. What is left of the frame is its
 -- size less the quanta of the boosts so far.
 use Rattle.std.specs.Prelude.{ℕ, zero, suc, ◌+◌, ◌-◌, ◌*◌, max, nat_eq, nat_lt, Bool, false, ◌&&◌, if◌then◌else◌, List, slice_index_or, slice_set, replicate, ℤ, pos, unsigned_abs}
-use Rattle.bit_allocation.specs.Amounts.{coefficients_of, most_of}
+use Rattle.bit_allocation.specs.Amounts.{most_of}
+use Rattle.celt_tables.specs.Tables.{coefficients_of}
 use Rattle.bit_allocation.specs.Requests.{quantum_of}
 use Rattle.celt_base.specs.declared.coder.Place.TheVariants.{Boost, Trim}
 use Rattle.celt_base.specs.declared.kind.Kind.{Kind}

@@ -2,7 +2,7 @@
 ghost use Rattle.std.specs.Prelude.{◌≡◌, ◌+◌, ◌-◌, ◌*◌, ◌^◌, ◌<◌, ◌≤◌, pos, true, max, nat_eq, if◌then◌else◌};
 ghost use Rattle.celt_base.specs.Walks.{Walked};
 ghost use Rattle.celt_tables.specs.Tables.{cap_of};
-ghost use Rattle.bit_allocation.specs.Amounts.{coefficients_of};
+ghost use Rattle.celt_tables.specs.Tables.{coefficients_of};
 ghost use Rattle.frame_symbols.specs.Boosts.{weight_of, may_boost, turn_script, turns_script, boosts_script, trim_script, taken_below, boosted_below};
 ghost use Rattle.bit_allocation.specs.Requests.{quantum_of, AreBoosts};
 ghost use Rattle.frame_symbols.specs.BoostFacts.{IsBand};

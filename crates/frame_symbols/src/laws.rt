@@ -2,7 +2,7 @@
 ghost use Rattle.std.specs.Prelude.{◌≡◌, ℕ, ◌*◌, ◌<◌, ◌≤◌, List, length, Some};
 ghost use Rattle.bit_allocation.specs.Requests.{quantum_of};
 ghost use Rattle.celt_tables.specs.Tables.{cap_of};
-ghost use Rattle.bit_allocation.specs.Amounts.{coefficients_of};
+ghost use Rattle.celt_tables.specs.Tables.{coefficients_of};
 ghost use Rattle.celt_base.specs.declared.kind.Kind.{Kind};
 ghost use Rattle.celt_base.specs.Questions.{Answered};
 ghost use Rattle.celt_base.specs.WalkOrders.{AtMost, InOrder, outcome};

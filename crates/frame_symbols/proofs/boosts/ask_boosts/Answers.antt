@@ -4,7 +4,7 @@ use Rattle.std.specs.Prelude.{pos}
 use Rattle.std.proofs.lemmas.Int.{to_z_pos}
 use Rattle.std.proofs.lemmas.Nat.{mul-le}
 use Rattle.frame_symbols.proofs.BoostSteps.{boosts_start, boosts_last, taken_last, band_same, weight_within, boosts_after}
-use Rattle.bit_allocation.proofs.AmountLemmas.{end_most}
+use Rattle.celt_base.proofs.BandEnds.{end_most}
 use Rattle.celt_tables.specs.Tables.{cap_of}
 use Rattle.bit_allocation.specs.Requests.{quantum_of}
 use Rattle.frame_symbols.proofs.boosts.ask_boosts.Goals as goal

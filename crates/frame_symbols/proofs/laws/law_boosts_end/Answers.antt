@@ -3,7 +3,7 @@ use Rattle.std.proofs.lemmas.Nat.{mul-le}
 use Rattle.bit_allocation.specs.Requests.{quantum_of}
 use Rattle.celt_tables.specs.Tables.{caps_entry}
 use Rattle.celt_tables.proofs.Entries.{caps_most}
-use Rattle.bit_allocation.specs.Amounts.{coefficients_of}
+use Rattle.celt_tables.specs.Tables.{coefficients_of}
 use Rattle.frame_symbols.proofs.laws.law_boosts_end.Goals as goal
 
 within : (entry v : ℕ) → entry ≤ 240 → (entry + 64) * v / 4 ≤ 76 * quantum_of v
