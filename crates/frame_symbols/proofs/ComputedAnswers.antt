@@ -10,7 +10,7 @@ use Rattle.celt_base.specs.Questions.{answers_of, start, part_of, uniform_row, l
 use Rattle.range_coder.specs.FrameBits.{head, tail}
 use Rattle.range_coder.specs.Reading.{Holds, IsRead, AreRead, IsNumber, Answers}
 use Rattle.range_coder.proofs.Answering.{answer_determined}
-use Rattle.frame_symbols.specs.Computing.{last_below, holds, reads, all_read, counted, count_of, gives, answer_of}
+use Rattle.frame_symbols.specs.Computing.{last_below, holds, reads, all_read, counted, gives, answer_of}
 
 -- below a bound, and not at its last place
 not_last : (test : ℕ → Bool) (n k : ℕ) → k < suc n → test k ≡ true → test n ≡ false → k < n

@@ -1,12 +1,12 @@
 -- The computed reading is the one list in order whose answers are the frame's.
-use Rattle.std.proofs.Common.{◌≡◌, ℕ, List, [], ◌∷◌, ◌++◌, ℤ, refl, sym, ap, ◌∙◌, subst}
+use Rattle.std.proofs.Common.{◌≡◌, ℕ, List, [], ◌∷◌, ℤ, refl, sym, ap, ◌∙◌, subst}
 use Rattle.std.specs.Prelude.{Some, ⊤}
 use Rattle.celt_base.specs.declared.coder.Place.{Place}
 use Rattle.celt_base.specs.declared.question.Question.{Question}
 use Rattle.celt_base.specs.Intervals.{Interval}
 use Rattle.celt_base.specs.Paces.{Pace, paced}
 use Rattle.celt_base.specs.Questions.{Answered, after_answer}
-use Rattle.celt_base.specs.WalkOrders.{Next, AsksAt, Ends, next, outcome, Follows, InOrder}
+use Rattle.celt_base.specs.WalkOrders.{Next, AsksAt, Ends, next, outcome, InOrder}
 use Rattle.celt_base.specs.WalkScripts.{Script, Done, Look, Ask, Begin}
 use Rattle.range_coder.specs.Reading.{Answers, AnswersFrom}
 use Rattle.frame_symbols.specs.Computing.{answer_of, answered, read_by}

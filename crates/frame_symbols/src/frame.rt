@@ -177,27 +177,21 @@ fn walk_ending<C: Coder, H: Chooser>(
     ensures count { C.calls.count coder.new ≤ C.calls.count coder.old + 1408 }
 {
     let Settled { shaping, amounts } = settled;
-    out.allocation = amounts.allocation;
-    fine(coder, chooser, kind, &amounts.allocation, &mut out.energy);
+    let a = &amounts.allocation;
+    out.allocation = *a;
+    fine(coder, chooser, kind, a, &mut out.energy);
     let total = (64 * len - amounts.reserve) as i32;
     walk_bands(
         coder,
         chooser,
         kind,
         &shaping.settings,
-        &amounts.allocation,
+        a,
         total,
         &mut out.bands,
     );
     out.collapse = ask_collapse(coder, chooser, amounts.reserve);
-    last(
-        coder,
-        chooser,
-        kind,
-        &amounts.allocation,
-        8 * len,
-        &mut out.energy,
-    );
+    last(coder, chooser, kind, a, 8 * len, &mut out.energy);
 }
 
 // Asks the questions of a frame that is not silent.
