@@ -329,7 +329,8 @@ fn words(rt: HostRuntime) -> Result<(), AllocError> {
     Ok(())
 }
 
-// The k-th read, the k-th write and the note fail. Nothing but a front of the samples was written.
+// The k-th read, the k-th write and the note fail. Nothing but a front of the samples was written: those of the pages
+// before, and the first half of the 1920 bytes of the write that fails.
 #[test]
 fn failures(rt: HostRuntime) -> Result<(), AllocError> {
     let alloc = rt.alloc();
@@ -344,7 +345,7 @@ fn failures(rt: HostRuntime) -> Result<(), AllocError> {
         assert_eq!(rt; got.status, Status::ReadFault, "read {call}");
         assert!(rt; got.output.is_empty() && got.notes.is_empty());
     }
-    for (call, len) in [(0u64, 0usize), (1, 1920)] {
+    for (call, len) in [(0u64, 960usize), (1, 2880)] {
         let failing = Failing {
             write: Some(call),
             ..NONE_FAILS
