@@ -57,6 +57,14 @@ lengths-sum before (x ∷ xs) = by_test (cases_Bool (ends x)) (lengths-sum 0 xs)
       let t = sum-cons x xs in
       omega arith
 
+-- no more lengths than values
+pub lengths-few : (before : ℕ) (xs : List ℕ) → length (lengths_from before xs) ≤ length xs
+lengths-few before [] = let n = ap length (lengths-none before) in omega arith
+lengths-few before (x ∷ xs) = by_test (cases_Bool (ends x)) (lengths-few 0 xs) (lengths-few (before + x) xs) where
+  by_test : (ends x ≡ true) ⊎ (ends x ≡ false) → length (lengths_from 0 xs) ≤ length xs → length (lengths_from (before + x) xs) ≤ length xs → length (lengths_from before (x ∷ xs)) ≤ length (x ∷ xs)
+  by_test (inl e) again longer = let s = ap length (lengths-ended before x xs e) in omega arith
+  by_test (inr e) again longer = let s = ap length (lengths-longer before x xs e) in omega arith
+
 -- what is carried over the values before the others
 pub lengths-append : (before carried : ℕ) (xs ys : List ℕ) → before + sum xs ≡ sum (lengths_from before xs) + carried
     → lengths_from before (xs ++ ys) ≡ lengths_from before xs ++ lengths_from carried ys

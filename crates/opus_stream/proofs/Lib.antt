@@ -1,10 +1,13 @@
 pub mod Beginning
 pub mod Carried
+pub mod Cutting
+pub mod Flagging
 pub mod Grants
 pub mod Headers
 pub mod Hearing
 pub mod Joining
 pub mod Lasting
+pub mod Linking
 pub mod Placing
 pub mod Prefixes
 pub mod Reading
@@ -14,3 +17,4 @@ pub mod Sizes
 pub mod Spanning
 pub mod Spelled
 pub mod Tallying
+pub mod Telling

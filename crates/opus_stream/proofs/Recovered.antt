@@ -163,7 +163,7 @@ pub record Follows (head page : Page) (number : ℕ) : Type 0 where
   pub later : is_first page ≡ false
   pub sequence : page.sequence ≡ (head.sequence + number) % 2 ^ 32
 
-follows_by : (head : Page) (rest : List Page) (page : Page) → order_fault (head ∷ rest) page ≡ None → Follows head page (length (head ∷ rest))
+pub follows_by : (head : Page) (rest : List Page) (page : Page) → order_fault (head ∷ rest) page ≡ None → Follows head page (length (head ∷ rest))
 unfolding order_fault
 follows_by head rest page h = by (page.serial == head.serial) (is_first page) (follows head (length (head ∷ rest)) page) refl refl refl h where
   by : (s f q : Bool) → (page.serial == head.serial) ≡ s → is_first page ≡ f → follows head (length (head ∷ rest)) page ≡ q
@@ -445,7 +445,7 @@ all_parts (x ∷ xs) ys all =
     let r = all_parts xs ys (All-tail IsPage x (xs ++ ys) all) in
     (All-cons IsPage x xs (All-head IsPage x (xs ++ ys) all) r.0, r.1)
 
-first_form : (page : Page) → form_fault [] page ≡ head_fault page
+pub first_form : (page : Page) → form_fault [] page ≡ head_fault page
 unfolding form_fault
 first_form page = refl
 
@@ -589,7 +589,7 @@ pub record Recovered (bytes : List ℕ) : Type 0 where
   pub pages : All IsPage (accepted bytes)
   pub carried : Assembled (accepted bytes)
 
-sound_end : (ended : Bool) (number : ℕ) (ending : Ending) → end_fault ended number ending ≡ None → (ended ≡ true) × (ending ≡ Sound)
+pub sound_end : (ended : Bool) (number : ℕ) (ending : Ending) → end_fault ended number ending ≡ None → (ended ≡ true) × (ending ≡ Sound)
 sound_end true number Sound h = (refl, refl)
 sound_end true number Short h = let f : ⊥ = cc in absurd f
 sound_end true number (Broken fault) h = let f : ⊥ = cc in absurd f

@@ -1,5 +1,5 @@
 -- The tests of an audio packet (RFC 6716, sections 3.1 and 3.4), and how long it lasts.
-use Rattle.std.specs.Prelude.{ℕ, ◌+◌, List, [], ◌∷◌, length, slice_index, sum_by, nat_lt, if◌then◌else◌, Option, None, Some, Result, Ok, Err}
+use Rattle.std.specs.Prelude.{◌≡◌, ℕ, ◌+◌, ◌≤◌, List, [], ◌∷◌, length, slice_index, sum_by, nat_lt, if◌then◌else◌, Option, None, Some, Result, Ok, Err}
 use Rattle.celt_base.specs.declared.status.Fault.{Fault}
 use Rattle.celt_base.specs.declared.status.FaultName.{FaultName}
 use Rattle.celt_base.specs.declared.status.FaultName.TheVariants.{PacketTooLong, BadPacket, NotCelt}
@@ -49,6 +49,14 @@ open_fault number bytes = if nat_lt longest (length bytes) then Some (fault_at P
 unfoldable pub packets_fault : ℕ → List (List ℕ) → List ℕ → Option Fault
 packets_fault number [] left = open_fault number left
 packets_fault number (packet ∷ packets) left = first_fault (packet_fault number packet) (packets_fault (number + 1) packets left)
+
+-- a packet that may be played: not too long, cut into frames, and of the CELT-only mode (configurations 16 to 31)
+pub record IsPlayable (packet : List ℕ) : Type 0 where
+  pub short : length packet ≤ longest
+  pub cut : Cut
+  pub cut_is : cut_of packet ≡ Ok cut
+  pub packet_is : cut.packet ≡ packet
+  pub celt : 16 ≤ config_of (slice_index packet 0)
 
 abbrev pub cut_samples : Result Cut PacketFault → ℕ
 cut_samples (Err rule) = 0

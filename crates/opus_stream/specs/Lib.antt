@@ -3,6 +3,7 @@ pub mod Accepted
 pub mod Audio
 pub mod Carrying
 pub mod Granules
+pub mod Links
 pub mod Packets
 pub mod Pages
 pub mod Progressing

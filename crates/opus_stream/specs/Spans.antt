@@ -1,5 +1,6 @@
 -- The samples that pages give, said of all of them.
-use Rattle.std.specs.Prelude.{ℕ, ◌+◌, ◌-◌, List, [], ◌∷◌, ◌++◌, sum_by}
+use Rattle.std.specs.Prelude.{ℕ, ℤ, ◌+◌, ◌-◌, List, [], ◌∷◌, ◌++◌, sum_by}
+use Rattle.std.specs.List.{flat_map, slice_range}
 use Rattle.ogg_pages.specs.Fields.{Page}
 use Rattle.opus_stream.specs.declared.answers.Span.{Span}
 use Rattle.opus_stream.specs.Granules.{samples_on}
@@ -25,3 +26,11 @@ placed before s = record { from = before + s.from; to = before + s.to }
 unfoldable pub places_after : List Page → List Page → List Span
 places_after before [] = []
 places_after before (page ∷ pages) = placed (samples_on (audio_in before)) (last_span (before ++ page ∷ [])) ∷ places_after (before ++ page ∷ []) pages
+
+-- of samples in order those of a span
+abbrev pub cut_out : List ℤ → Span → List ℤ
+cut_out samples s = slice_range samples s.from s.to
+
+-- of the samples of all packets, in order, those that are written
+abbrev pub written_of : List ℤ → List Page → List ℤ
+written_of samples pages = flat_map (cut_out samples) (places_after [] pages)

@@ -19,7 +19,7 @@ mod tests;
 
 pub use answers::{Accept, Span};
 pub use laws::{
-    law_fault_stays, law_pages_go_on, law_readers_alike, law_spans, law_streams_are_read,
-    law_streams_are_spelled,
+    law_counts, law_fault_stays, law_first_page, law_links, law_packets_are_sound, law_pages_go_on,
+    law_readers_alike, law_spans, law_streams_are_read, law_streams_are_spelled,
 };
 pub use reader::StreamReader;

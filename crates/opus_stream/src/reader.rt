@@ -6,10 +6,9 @@ use crate::accepting::{Given, NOTHING};
 use crate::answers::{Accept, Span};
 use crate::packets::{lacing_of, packet_at};
 use crate::progress::Progress;
-use crate::room::Room;
+use crate::room::{Room, page_room};
 use crate::step::{Taken, take_page};
 use celt_base::status::{Fault, FaultName, OutOfMemory};
-use ogg_pages::page::MAX_PAGE_LEN;
 use ogg_pages::reader::PageReader;
 use opus_packets::Head;
 use std::alloc::Global;
@@ -65,6 +64,7 @@ impl StreamReader {
     ghost use Rattle.celt_base.specs.declared.status.Fault.{Fault};
     ghost use Rattle.opus_stream.specs.declared.answers.Accept.{Accept};
     ghost use Rattle.opus_stream.specs.declared.answers.Accept.TheVariants.{Need, Page};
+    ghost use Rattle.opus_stream.specs.Audio.{IsPlayable};
     ghost use Rattle.opus_stream.specs.Tests.{is_ended};
     ghost use Rattle.opus_stream.specs.Acceptance.{answer_of, end_fault_of, given_pages, size_of, last_bytes, last_packets, last_span, head_in};
     ghost use Rattle.opus_stream.specs.Readers.{Reader, StandsFor, IsAnswer, IsPacket, IsHeld, IsEnd, bytes_fed, bytes_held, free_room, is_ended_in, packets_of, given_after};
@@ -81,7 +81,7 @@ impl StreamReader {
         let Ok(pages) = PageReader::new(alloc) else {
             return Err(OutOfMemory);
         };
-        let Ok(page) = Vec::with_capacity(alloc, MAX_PAGE_LEN) else {
+        let Ok(page) = page_room(alloc) else {
             return Err(OutOfMemory);
         };
         let Ok(room) = Room::new(alloc) else {
@@ -187,7 +187,8 @@ impl StreamReader {
     /// An audio packet that ends on the page that was given last, by its number from 0.
     pub fn packet(&self, i: usize) -> &[u8]
         requires { i < packets_of self.now }
-        ensures { IsPacket self.now i result.now }
+        ensures is { IsPacket self.now i result.now }
+        ensures sound { (bytes : List ℕ) (given : ℕ) → StandsFor self.now bytes given → IsPlayable result.now }
     {
         let bytes = self.room.given();
         packet_at(

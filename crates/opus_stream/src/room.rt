@@ -1,14 +1,38 @@
 //! The bytes of a page's packets: those of the packet that was open before the page, and behind them the
 //! page's segments.
-ghost use Rattle.std.specs.Prelude.{◌≡◌, ◌+◌, ◌≤◌};
+ghost use Rattle.std.specs.Prelude.{◌≡◌, ◌+◌, ◌≤◌, [], IfOk, vec_capacity};
+ghost use Rattle.opus_stream.specs.Rooms.{page_room, packets_room};
 
 use celt_base::held::drop_front;
 use celt_base::status::OutOfMemory;
+use ogg_pages::page::MAX_PAGE_LEN;
 use std::alloc::Global;
 use std::marker::Model;
 
 /// The longest audio packet that can be open, and the segments of two pages.
 const ROOM: usize = 61440 + 2 * 65025;
+
+/// Room for the copy of a page, and for no more.
+pub(crate) fn page_room(alloc: Global) -> Result<Vec<u8>, OutOfMemory>
+    ensures empty { IfOk result (λ page. page.items ≡ []) }
+    ensures reserved { IfOk result (λ page. vec_capacity page ≡ page_room) }
+{
+    match Vec::with_capacity(alloc, MAX_PAGE_LEN) {
+        Ok(page) => Ok(page),
+        Err(_) => Err(OutOfMemory),
+    }
+}
+
+/// Room for the bytes of the packets, and for no more.
+fn packets_room(alloc: Global) -> Result<Vec<u8>, OutOfMemory>
+    ensures empty { IfOk result (λ bytes. bytes.items ≡ []) }
+    ensures reserved { IfOk result (λ bytes. vec_capacity bytes ≡ packets_room) }
+{
+    match Vec::with_capacity(alloc, ROOM) {
+        Ok(bytes) => Ok(bytes),
+        Err(_) => Err(OutOfMemory),
+    }
+}
 
 /// How many of the `start` bytes that are done with go, of `end` in all, so that there is place for more: none
 /// while there is place.
@@ -61,7 +85,7 @@ impl Room {
     pub(crate) fn new(alloc: Global) -> Result<Room, OutOfMemory>
         ensures { IfOk result (λ room. room ≡ record { given = []; offered = []; left = 0 }) }
     {
-        match Vec::with_capacity(alloc, ROOM) {
+        match packets_room(alloc) {
             Ok(bytes) => Ok(Room {
                 bytes,
                 start: 0,
