@@ -1,5 +1,5 @@
 //! Streams in pieces of any size, and the worked rows: what is written, and which fault comes where.
-ghost use Rattle.std.specs.Prelude.{◌≡◌, ◌≤◌, ◌<◌, ◌^◌, length};
+ghost use Rattle.std.specs.Prelude.{◌≡◌, ◌≤◌, ◌<◌, ◌+◌, ◌^◌, true, None, length};
 ghost use Rattle.opus_stream.specs.Readers.{bytes_fed};
 
 use crate::answers::{Accept, Span};
@@ -491,6 +491,63 @@ fn begun_again(rt: HostRuntime) -> Result<(), AllocError> {
     reader.restart();
     assert_eq!(rt; look(&reader), row(0, 0, 0, 0, 2, false));
     assert_eq!(rt; reader.next_page(), Accept::Need);
+    Ok(())
+}
+
+/// Takes every page that is accepted of the bytes so far, and answers the fault behind them.
+fn take_pages(reader: &mut StreamReader) -> Option<Fault>
+    ensures settled { result ≡ None → reader.new.is_settled ≡ true }
+    ensures fed { bytes_fed reader.new ≡ bytes_fed reader.old }
+{
+    'pages: loop {
+        match reader.next_page() {
+            Accept::Page => {}
+            Accept::Need => return None,
+            Accept::Fault(fault) => return Some(fault),
+        }
+    }
+}
+
+/// Feeds a piece until nothing is taken, and takes every page. Without a fault nothing of the piece is left.
+fn feed_whole(reader: &mut StreamReader, piece: &[u8]) -> Option<Fault>
+    requires settled { reader.old.is_settled ≡ true }
+    requires limit { bytes_fed reader.old + length piece.now ≤ 2 ^ 48 }
+    ensures whole { result ≡ None → bytes_fed reader.new ≡ bytes_fed reader.old + length piece.now }
+    ensures settled { result ≡ None → reader.new.is_settled ≡ true }
+{
+    let mut rest = piece;
+    'pieces: loop {
+        let count = reader.feed(rest);
+        if count == 0 {
+            return None;
+        }
+        let (_, behind) = rest.split_at(count);
+        rest = behind;
+        if let Some(fault) = take_pages(reader) {
+            return Some(fault);
+        }
+    }
+}
+
+/// The fault of a stream that is fed as one piece, and whether it has ended.
+fn fed_whole(alloc: Global, text: &str) -> Result<(Option<Fault>, bool), AllocError> {
+    let bytes = bytes_of_text(alloc, text)?;
+    let Ok(mut reader) = StreamReader::new(alloc) else {
+        return Err(AllocError);
+    };
+    let fault = feed_whole(&mut reader, front(&bytes, 1000));
+    Ok((fault, reader.ended()))
+}
+
+// A loop over pages ends, and so does one over what is left of a piece.
+#[test]
+fn fed_until_nothing_is_taken(rt: HostRuntime) -> Result<(), AllocError> {
+    assert_eq!(rt; fed_whole(rt.alloc(), SHORT)?, (None, true));
+    let behind = Fault {
+        name: FaultName::AfterEnd,
+        at: 4,
+    };
+    assert_eq!(rt; fed_whole(rt.alloc(), TRIMMED)?, (Some(behind), true));
     Ok(())
 }
 

@@ -6,7 +6,7 @@ use Rattle.byteorder.specs.Endian.{little_from, little_number}
 use Rattle.wav_edge.specs.Fields.{number_at}
 
 -- the places of a list from place k on
-little_from-drop : (k j n : ℕ) (xs : List ℕ) → little_from j n (drop k xs) ≡ little_from (k + j) n xs
+pub little_from-drop : (k j n : ℕ) (xs : List ℕ) → little_from j n (drop k xs) ≡ little_from (k + j) n xs
 little_from-drop k j zero xs = refl
 little_from-drop k j (suc n) xs =
     let byte = get_or-drop k xs j 0 in

@@ -1,4 +1,6 @@
 pub mod FieldLemmas
+pub mod FileLaws
+pub mod FileLemmas
 pub mod PartLemmas
 pub mod ReadLemmas
 pub mod ReaderLemmas

@@ -37,7 +37,7 @@ Beyond-le k n (Broken fault) h b = tt
 Beyond-once : (k n : ℕ) (bytes : List ℕ) (p : Part) → Beyond k p → Beyond k (once n bytes p)
 Beyond-once k n bytes p b = elim (nat_le n (length bytes)) as (λ t. Beyond k (if t then p else More)) [ true ↦ b | false ↦ tt ]
 
-once_short : (n : ℕ) (bytes : List ℕ) (p : Part) → length bytes < n → once n bytes p ≡ More
+pub once_short : (n : ℕ) (bytes : List ℕ) (p : Part) → length bytes < n → once n bytes p ≡ More
 once_short n bytes p h = let e : nat_le n (length bytes) ≡ false = grind (arith, nat_tests) in rw e refl
 
 pub once_there : (n : ℕ) (bytes : List ℕ) (p : Part) → n ≤ length bytes → once n bytes p ≡ p

@@ -43,7 +43,7 @@ first_four : (letters rest : List ℕ) → length letters ≡ 4 → take 4 (lett
 first_four letters rest e = ap (λ (i : ℕ). take i (letters ++ rest)) (sym e) ∙ take-append_seam letters rest
 
 -- the length of a chunk
-chunk_bytes_length : (letters contents : List ℕ) (padding : ℕ) → length letters ≡ 4 →
+pub chunk_bytes_length : (letters contents : List ℕ) (padding : ℕ) → length letters ≡ 4 →
     length (chunk_bytes letters contents padding) ≡ 8 + length contents + length contents % 2
 chunk_bytes_length letters contents padding e =
     let n = length contents in
@@ -71,20 +71,20 @@ chunk_passed letters contents padding seen at four no_data no_format short =
     ∙ ap (λ (n : ℕ). Passed seen (8 + n + n % 2)) size ∙ ap (Passed seen) (sym len)
 
 -- a part that is passed over as a whole
-passed_whole : (bytes more : List ℕ) (seen after : Seen) (at : ℕ) → part_at seen at bytes ≡ Passed after (length bytes) → 0 < length bytes →
+pub passed_whole : (bytes more : List ℕ) (seen after : Seen) (at : ℕ) → part_at seen at bytes ≡ Passed after (length bytes) → 0 < length bytes →
     read (bytes ++ more) 0 seen at ≡ read more 0 after (at + length bytes)
 passed_whole bytes more seen after at e some =
     let none : length bytes - length bytes ≡ 0 = omega arith in
     read_passed bytes more seen after at (length bytes) e some (omega arith) ∙ ap (λ (left : ℕ). read more left after (at + length bytes)) none
 
 -- chunks that are passed over, after the form's head
-part_of_chunk : (seen : Seen) (at : ℕ) (bytes : List ℕ) → is_between 0 seen ≡ true → part_at seen at bytes ≡ chunk_part seen at bytes
+pub part_of_chunk : (seen : Seen) (at : ℕ) (bytes : List ℕ) → is_between 0 seen ≡ true → part_at seen at bytes ≡ chunk_part seen at bytes
 unfolding part_at
 part_of_chunk Nothing at bytes h = cc
 part_of_chunk Form at bytes h = refl
 part_of_chunk (Format channels rate) at bytes h = refl
 
-other_read : (chunk : Chunk) (more : List ℕ) (seen : Seen) (at : ℕ) → IsChunk chunk → is_between 0 seen ≡ true →
+pub other_read : (chunk : Chunk) (more : List ℕ) (seen : Seen) (at : ℕ) → IsChunk chunk → is_between 0 seen ≡ true →
     read (spelled chunk ++ more) 0 seen at ≡ read more 0 seen (at + length (spelled chunk))
 unfolding spelled
 other_read chunk more seen at is between =
@@ -92,7 +92,7 @@ other_read chunk more seen at is between =
     (part_of_chunk seen at (spelled chunk) between ∙ chunk_passed chunk.letters chunk.contents chunk.padding seen at is.four is.no_data is.no_format is.short)
     (omega (arith, chunk_bytes_length chunk.letters chunk.contents chunk.padding is.four))
 
-others_read : (chunks : List Chunk) (more : List ℕ) (seen : Seen) (at : ℕ) → All (λ chunk. IsChunk chunk) chunks → is_between 0 seen ≡ true →
+pub others_read : (chunks : List Chunk) (more : List ℕ) (seen : Seen) (at : ℕ) → All (λ chunk. IsChunk chunk) chunks → is_between 0 seen ≡ true →
     read (flat_map spelled chunks ++ more) 0 seen at ≡ read more 0 seen (at + length (flat_map spelled chunks))
 others_read [] more seen at all between = ap (read more 0 seen) (omega arith)
 others_read (chunk ∷ chunks) more seen at all between =
@@ -160,7 +160,7 @@ few_channels : (channels : ℕ) → (channels ≡ 1) ⊎ (channels ≡ 2) → ch
 few_channels channels few = elim few [ inl one ↦ omega arith | inr two ↦ omega arith ]
 
 -- `fmt ` as it is written
-format_told : (channels padding at : ℕ) (d : Description) → (channels ≡ 1) ⊎ (channels ≡ 2) → IsLong d → length (format_contents channels d) < 2 ^ 32 →
+pub format_told : (channels padding at : ℕ) (d : Description) → (channels ≡ 1) ⊎ (channels ≡ 2) → IsLong d → length (format_contents channels d) < 2 ^ 32 →
     part_at Form at (chunk_bytes format_letters (format_contents channels d) padding)
     ≡ Passed (Format channels 48000) (length (chunk_bytes format_letters (format_contents channels d) padding))
 format_told channels padding at (Plain speed group extra) few long short =
@@ -194,12 +194,12 @@ data_told channels at size small whole =
     let field : size_of (data_letters ++ (little_bytes 4 size ++ [])) ≡ size = number_at_field 4 4 size data_letters [] refl (omega arith) in
     ap (sized channels 48000 at) field ∙ sized_whole channels 48000 at size whole
 
-form_told : (size : ℕ) → part_at Nothing 0 (riff ++ (little_bytes 4 size ++ wave)) ≡ Passed Form 12
+pub form_told : (size : ℕ) → part_at Nothing 0 (riff ++ (little_bytes 4 size ++ wave)) ≡ Passed Form 12
 unfolding part_at form_part fits
 form_told size = refl
 
 -- what stands before `data` is passed over, and the format stays
-opening_read : (o : Opening) → IsOpening o → (more : List ℕ) → outcome (opening_bytes o ++ more) ≡ read more 0 (Format o.channels 48000) (length (opening_bytes o))
+pub opening_read : (o : Opening) → IsOpening o → (more : List ℕ) → outcome (opening_bytes o ++ more) ≡ read more 0 (Format o.channels 48000) (length (opening_bytes o))
 unfolding outcome opening_bytes
 opening_read o is more =
     let format = Format o.channels 48000 in

@@ -1,5 +1,6 @@
 pub mod Cursors
 pub mod Fields
+pub mod Files
 pub mod Parts
 pub mod Readers
 pub mod Reading

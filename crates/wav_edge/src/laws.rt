@@ -1,16 +1,17 @@
 //! Laws of the definitions that the calls cite. Each function does nothing: its clause is the law.
-ghost use Rattle.std.specs.Prelude.{◌≡◌, ◌≤◌, ◌<◌, ◌⊎◌, ◌^◌, ◌%◌, ◌+◌, ◌*◌, ◌≢◌, ◌++◌, ℕ, ℤ, List, Option, length, drop, All, FitsSigned};
+ghost use Rattle.std.specs.Prelude.{◌≡◌, ◌≤◌, ◌<◌, ◌⊎◌, ◌^◌, ◌%◌, ◌+◌, ◌*◌, ◌≢◌, ◌++◌, ℕ, ℤ, Bool, List, Option, Some, None, length, drop, All, FitsSigned, if◌then◌else◌};
 ghost use Rattle.std.specs.Int.{w16};
 ghost use Rattle.std.specs.List.{flat_map};
 ghost use Rattle.byteorder.specs.Endian.{little_bytes};
-ghost use Rattle.celt_base.specs.declared.status.FaultName.TheVariants.{NoData};
+ghost use Rattle.celt_base.specs.declared.status.FaultName.TheVariants.{NoData, DataTruncated, UnsupportedFormat};
 ghost use Rattle.wav_edge.specs.Fields.{format_letters, data_letters};
 ghost use Rattle.celt_base.specs.declared.status.Fault.{Fault};
 ghost use Rattle.wav_edge.specs.declared.reader.HeaderReader.{HeaderReader};
-ghost use Rattle.wav_edge.specs.Reading.{outcome, samples, within_size, IsHeaderFault, broken_at, end_fault};
-ghost use Rattle.wav_edge.specs.Reading.Outcome.{Faulty, Started};
+ghost use Rattle.wav_edge.specs.Reading.{outcome, samples, within_size, IsHeaderFault, broken_at, is_whole, end_fault};
+ghost use Rattle.wav_edge.specs.Reading.Outcome.{Unfinished, Faulty, Started};
 ghost use Rattle.wav_edge.specs.Readers.{StandsFor, answer_to};
 ghost use Rattle.wav_edge.specs.Samples.{samples_of, bytes_of};
+ghost use Rattle.wav_edge.specs.Files.{HasHeader, HasFormat, EndsWhole};
 ghost use Rattle.wav_edge.specs.Spellings.{Chunk, IsChunk, spelled, Opening, IsOpening, form_bytes, opening_bytes, IsDataSize, declared, header};
 
 /// A fault that was found stays whatever bytes follow, and so do the samples' format and place.
@@ -46,6 +47,37 @@ pub fn law_spelling()
         IsOpening o → size < 2 ^ 32 → IsDataSize o.channels size →
         outcome (opening_bytes o ++ (data_letters ++ (little_bytes 4 size ++ more)))
         ≡ Started o.channels 48000 (declared size) (length (opening_bytes o) + 8) }
+{}
+
+/// A header that is read is one of the form, as it is written: what stands before the samples is the spelling of its
+/// channels and its size.
+pub fn law_accepted()
+    ensures { (bytes : List ℕ) (channels rate : ℕ) (size : Option ℕ) (place : ℕ) → All (λ byte. byte < 256) bytes →
+        outcome bytes ≡ Started channels rate size place → HasHeader bytes channels size place }
+{}
+
+/// A file that is refused for its format has a chunk `fmt ` at the place that is named, and the four numbers that are
+/// named stand in its fields.
+pub fn law_refused()
+    ensures { (bytes : List ℕ) (codec bits channels rate place : ℕ) → All (λ byte. byte < 256) bytes →
+        outcome bytes ≡ Faulty (record { name = UnsupportedFormat codec bits channels rate; at = place }) →
+        HasFormat bytes codec bits channels rate place }
+{}
+
+/// The fault of an end: NoData just where the file ends directly behind `WAVE` or a later chunk with its padding and
+/// no `data` came, else DataTruncated, and nothing where the samples are whole.
+pub fn law_ends()
+    ensures no_data { (bytes : List ℕ) → EndsWhole bytes → end_fault bytes ≡ Some (record { name = NoData; at = length bytes }) }
+    ensures only { (bytes : List ℕ) (place : ℕ) → All (λ byte. byte < 256) bytes →
+        end_fault bytes ≡ Some (record { name = NoData; at = place }) → EndsWhole bytes }
+    ensures cut { (bytes : List ℕ) (between : Bool) → All (λ byte. byte < 256) bytes → outcome bytes ≡ Unfinished between →
+        (EndsWhole bytes → ⊥) → end_fault bytes ≡ Some (record { name = DataTruncated; at = length bytes }) }
+    ensures held { (o : Opening) (size : ℕ) (more : List ℕ) → IsOpening o → size < 2 ^ 32 → IsDataSize o.channels size →
+        end_fault (opening_bytes o ++ (data_letters ++ (little_bytes 4 size ++ more)))
+        ≡ (if is_whole o.channels (declared size) (length more) then None
+        else Some (record { name = DataTruncated; at = length (opening_bytes o) + 8 + length more })) }
+    ensures named { (bytes : List ℕ) (fault : Fault) → end_fault bytes ≡ Some fault →
+        (fault.at ≡ length bytes) × ((fault.name ≡ NoData) ⊎ (fault.name ≡ DataTruncated)) }
 {}
 
 /// Where what is written breaks the form: `data` before `fmt `, a second `fmt `, a size of `data` that is no

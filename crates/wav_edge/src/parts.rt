@@ -212,10 +212,11 @@ fn described(codec: u16, at: u64, bytes: &[u8]) -> Part
             length: chunk_length(bytes),
         };
     }
+    let bits = short_at(bytes, 22);
     Part::Broken(Fault {
         name: FaultName::UnsupportedFormat {
             codec: short_at(bytes, 8),
-            bits: short_at(bytes, 22),
+            bits,
             channels,
             rate,
         },
