@@ -1,57 +1,20 @@
 -- The pulses of an index, the last index, and the costs.
-use Rattle.std.proofs.Common.{◌≡◌, ◌^◌, ℕ, zero, suc, ◌+◌, ◌-◌, ◌<◌, ◌≤◌, ◌⊎◌, inl, inr, refl, sym, ◌∙◌, ap, arith}
-use Rattle.std.specs.Prelude.{Bool, true, false, ◌&&◌, nat_lt, nat_le, min, ℤ, pos, int_lt, int_le, unsigned_abs, ◌*ℤ◌, ◌-ℤ◌, ◌≤ℤ◌, ◌<ℤ◌}
-use Rattle.std.proofs.lemmas.Bool.{cases_lt, cases_Bool, leb-true, ltb-true}
+use Rattle.std.proofs.Common.{◌≡◌, ◌^◌, ℕ, zero, suc, ◌+◌, ◌-◌, ◌<◌, ◌≤◌, ◌⊎◌, inl, inr, refl, sym, ap, arith}
+use Rattle.std.specs.Prelude.{true, false, nat_lt, min, ℤ, pos, int_lt, int_le, unsigned_abs, ◌*ℤ◌, ◌-ℤ◌, ◌≤ℤ◌, ◌<ℤ◌}
+use Rattle.std.proofs.lemmas.Bool.{cases_lt, cases_Bool, ltb-true}
 use Rattle.std.proofs.lemmas.Bool.Decides.{nat_tests}
 use Rattle.std.proofs.lemmas.Int.{ints}
-use Rattle.pulse_vectors.specs.Costs.{pulses_at, last_of, log_eighths, cost_at, index_below, index_near}
-use Rattle.pulse_vectors.specs.Tables.{HasPlace, start_of}
+use Rattle.pulse_vectors.specs.Costs.{pulses_at, last_of, cost_at, index_below, index_near}
+use Rattle.pulse_vectors.specs.declared.constants.TheConstants.{COSTS}
+use Rattle.pulse_vectors.specs.Tables.{HasPlace, start_of, cost_start_of, cost_entry}
 use Rattle.pulse_vectors.specs.Vectors.{count_of}
 use Rattle.pulse_vectors.proofs.Counts.{count-no-pulses}
 use Rattle.pulse_vectors.proofs.RankSteps.{count-rises}
-use Rattle.pulse_vectors.proofs.TableFacts.{both, table-facts}
+use Rattle.pulse_vectors.proofs.TableFacts.{table-facts}
 use Rattle.pulse_vectors.proofs.TableSteps.{has-place}
+pub use Rattle.pulse_vectors.proofs.CostFacts.{pulses-least, pulses-most}
+use Rattle.pulse_vectors.proofs.CostFacts.{CostFacts, costs-facts, pulses_rise}
 use Rattle.pulse_vectors.proofs.Logs.{greatest-is, greatest-passes, greatest-within, greatest-above, eighths_rise}
-
--- A test that holds of each number below a bound.
-unfoldable pub holds_below : (ℕ → Bool) → ℕ → Bool
-holds_below p zero = true
-holds_below p (suc n) = p n && holds_below p n
-
-holds-at : (p : ℕ → Bool) (n k : ℕ) → holds_below p n ≡ true → k < n → p k ≡ true
-unfolding holds_below
-holds-at p zero k e h = absurd (omega arith)
-holds-at p (suc n) k e h = elim (cases_lt k n) [
-  | inl less ↦ holds-at p n k (both _ _ e).1 less
-  | inr last ↦ let same : k ≡ n = omega arith in rw same (both _ _ e).0
-]
-
--- An index stands for at least as many pulses, for at most 128, and the next for no fewer.
-abbrev pulses_test : ℕ → Bool
-pulses_test q = nat_le q (pulses_at q) && (nat_le (pulses_at q) 128 && nat_le (pulses_at (q - 1)) (pulses_at q))
-
-pulses-tested : holds_below pulses_test 41 ≡ true
-unfolding holds_below pulses_at
-pulses-tested = refl
-
-pub pulses-least : (q : ℕ) → q ≤ 40 → q ≤ pulses_at q
-pulses-least q h = leb-true _ _ (both _ _ (holds-at pulses_test 41 q pulses-tested (omega arith))).0
-
-pub pulses-most : (q : ℕ) → q ≤ 40 → pulses_at q ≤ 128
-pulses-most q h = leb-true _ _ (both _ _ (both _ _ (holds-at pulses_test 41 q pulses-tested (omega arith))).1).0
-
-pulses-next : (q : ℕ) → suc q ≤ 40 → pulses_at q ≤ pulses_at (suc q)
-pulses-next q h =
-    let e : suc q - 1 ≡ q = omega arith in
-    let t : pulses_at (suc q - 1) ≤ pulses_at (suc q) = leb-true _ _ (both _ _ (both _ _ (holds-at pulses_test 41 (suc q) pulses-tested (omega arith))).1).1 in
-    rw e at t
-
-pub pulses_rise : (q r : ℕ) → q ≤ r → r ≤ 40 → pulses_at q ≤ pulses_at r
-pulses_rise q zero h l = let e : q ≡ 0 = omega arith in rw e (omega arith)
-pulses_rise q (suc r) h l = elim (cases_lt r q) [
-  | inl last ↦ let e : q ≡ suc r = omega arith in rw e (omega arith)
-  | inr within ↦ omega (arith, pulses_rise q r within (omega arith), pulses-next r l)
-]
 
 pulses-zero : pulses_at 0 ≡ 0
 unfolding pulses_at
@@ -84,34 +47,15 @@ costs_rise n (suc q) (suc r) h l b =
     (count-rises n (pulses_at (suc q)) (pulses_at (suc r)) h (pulses_rise (suc q) (suc r) l (omega (arith, last-most n))))
     (index-fits n (suc r) h b)
 
-pub index-count-fits : (n q k : ℕ) → 1 ≤ n → q ≤ last_of n → k ≡ pulses_at q → count_of n k < 2 ^ 32
-index-count-fits n q k h b e = rw e (index-fits n q h b)
-
 pub count-place : (n k : ℕ) → 1 ≤ n → n ≤ 176 → k ≤ 128 → count_of n k < 2 ^ 32 → HasPlace (n - 1) k
 count-place n k h l b f =
     let s : suc (n - 1) ≡ n = omega arith in
     has-place (n - 1) k (omega arith) b (rw s f)
 
-pub cost-none : (n q : ℕ) → q ≡ 0 → 0 ≡ cost_at n q
-unfolding cost_at
-cost-none n q e = rw e refl
-
-pub cost-some : (n q k v r : ℕ) → 1 ≤ q → k ≡ pulses_at q → v ≡ count_of n k → r ≡ log_eighths v → r ≡ cost_at n q
-unfolding cost_at
-cost-some n zero k v r h e1 e2 e3 = absurd (omega arith)
-cost-some n (suc q) k v r h e1 e2 e3 = e3 ∙ ap log_eighths (e2 ∙ ap (count_of n) e1)
-
--- A search from above for the last index: none above stands for so few pulses.
+-- No index above stands for so few pulses.
 pub record LastSought (most index : ℕ) : Type 0 where
   pub within : index ≤ 40
   pub above : (q : ℕ) → index < q → q ≤ 40 → most < pulses_at q
-
-pub last-start : (most : ℕ) → LastSought most (min most 40)
-last-start most = record { within = omega arith; above = λ q h l. omega (arith, pulses-least q l) }
-
-pub last-positive : (most index k : ℕ) → k ≡ pulses_at index → most < k → 1 ≤ index
-last-positive most zero k e h = let e' = rw pulses-zero at e in absurd (omega arith)
-last-positive most (suc index) k e h = omega arith
 
 -- The number of pulses up to which there are fewer than 2^32 vectors, or 128.
 pub record IsMost (n most : ℕ) : Type 0 where
@@ -153,27 +97,54 @@ halving-end n last low high b e h l =
     rw (← e) (sym (greatest-is (λ q. int_lt (pos (cost_at n q)) b) last low (omega (arith, h.ordered, h.within)) h.below
     (λ q a c. h.above q (omega (arith, h.ordered)) c)))
 
--- The table's rows end at the most pulses.
-pub row-bounds : (n s e : ℕ) → 1 ≤ n → n ≤ 176 → s ≡ start_of (n - 1) → e ≡ start_of n → (s + 2 ≤ e) × (e ≤ 1963)
-row-bounds n s e h l e1 e2 =
-    let m : suc (n - 1) ≡ n = omega arith in
-    let f = rw m at (table-facts (n - 1) (omega arith)).two in
-    let g = rw m at (table-facts (n - 1) (omega arith)).last in
-    (omega arith, omega arith)
-
-pub row-most : (n s e : ℕ) → 1 ≤ n → n ≤ 176 → s ≡ start_of (n - 1) → e ≡ start_of n → IsMost n (e - s - 1)
-row-most n s e h l e1 e2 =
+-- What the table says of the most pulses, the last index and the costs of vectors of n numbers.
+row-most : (n : ℕ) → 1 ≤ n → n ≤ 176 → IsMost n (start_of n - start_of (n - 1) - 2)
+row-most n h l =
     let m : suc (n - 1) ≡ n = omega arith in
     let f = table-facts (n - 1) (omega arith) in
-    let fits = rw (m, ← e1, ← e2) at f.fits in
-    let enough = rw (m, ← e1, ← e2) at f.enough in
+    let two = rw m at f.two in
+    let fits = rw m at f.fits in
+    let enough = rw m at f.enough in
     record {
       below = fits;
       enough = λ k a b. elim enough [
         | inl full ↦ absurd (omega arith)
-        | inr more ↦ omega (arith, count-rises n (e - s) k h (omega arith))
+        | inr more ↦ omega (arith, count-rises n (start_of n - start_of (n - 1) - 1) k h (omega arith))
       ];
     }
+
+table-costs : (n : ℕ) → 1 ≤ n → n ≤ 176 → CostFacts (n - 1) (start_of n - start_of (n - 1) - 1) (cost_start_of (n - 1)) (cost_start_of n) COSTS
+table-costs n h l =
+    let m : suc (n - 1) ≡ n = omega arith in
+    rw m at (costs-facts (n - 1) (omega arith))
+
+pub last-is : (n : ℕ) → 1 ≤ n → n ≤ 176 → cost_start_of n ≡ cost_start_of (n - 1) + last_of n + 1
+last-is n h l =
+    let f = table-costs n h l in
+    let m : suc (n - 1) ≡ n = omega arith in
+    let two = rw m at (table-facts (n - 1) (omega arith)).two in
+    let top : ℕ = cost_start_of n - cost_start_of (n - 1) - 1 in
+    let e = last-end n (start_of n - start_of (n - 1) - 2) top (pulses_at top) h (row-most n h l)
+    (record { within = f.top; above = λ q a b. over q a b two f.past }) refl (omega (arith, f.fits)) in
+    omega (arith, f.some, e)
+  where
+    over : (q : ℕ) → cost_start_of n - cost_start_of (n - 1) - 1 < q → q ≤ 40 → start_of (n - 1) + 3 ≤ start_of n
+        → (cost_start_of n - cost_start_of (n - 1) - 1 ≡ 40) ⊎ (start_of n - start_of (n - 1) - 1 ≤ pulses_at (suc (cost_start_of n - cost_start_of (n - 1) - 1)))
+        → start_of n - start_of (n - 1) - 2 < pulses_at q
+    over q a b two (inl full) = absurd (omega arith)
+    over q a b two (inr more) =
+        omega (arith, two, pulses_rise (suc (cost_start_of n - cost_start_of (n - 1) - 1)) q (omega arith) b)
+
+pub costs-end : (n : ℕ) → 1 ≤ n → n ≤ 176 → cost_start_of n ≤ 1418
+costs-end n h l = (table-costs n h l).last
+
+pub cost-is : (n q : ℕ) → 1 ≤ n → n ≤ 176 → q ≤ last_of n → (cost_entry (cost_start_of (n - 1) + q) ≡ cost_at n q) × (cost_entry (cost_start_of (n - 1) + q) ≤ 264)
+unfolding cost_entry
+cost-is n q h l b =
+    let m : suc (n - 1) ≡ n = omega arith in
+    let i = (table-costs n h l).costs q (omega (arith, last-is n h l)) in
+    let exact = rw m at i.exact in
+    (exact, i.most)
 
 -- The nearer of two neighbours.
 nearer_low : (b : ℤ) (cl ch : ℕ) → (pos 2 *ℤ b) ≤ℤ pos (cl + ch) → int_le (b -ℤ pos cl) (pos ch -ℤ b) ≡ true

@@ -1,3 +1,4 @@
+pub mod CostFacts
 pub mod CostSteps
 pub mod Cover
 pub mod Counts

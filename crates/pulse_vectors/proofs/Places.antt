@@ -10,7 +10,7 @@ use Rattle.std.proofs.lemmas.Grind.{flat_map-append}
 use Rattle.std.proofs.lemmas.List.{length-map}
 use Rattle.std.proofs.lemmas.List.Sums.{sum_by-cons}
 use Rattle.std.proofs.Math.Nat.{eq-or-lt_of_le}
-use Rattle.pulse_vectors.specs.Rows.{count_below, stand_before}
+use Rattle.pulse_vectors.specs.Rows.{count_below, stand_before, rank_of}
 use Rattle.pulse_vectors.specs.Vectors.{pulse_sum, minus, down_from, vectors, count_of}
 
 -- Lists by place.
@@ -148,11 +148,6 @@ back_place n k c t r rest e h g =
     ∙ (get_behind (block n k (pos 0)) _ _
     ∙ run-get minus minus_sizes n k k 0 c t r (count_below n t + r) rest (omega arith) e h (omega arith) (omega arith) g))
 
--- The place of a vector, from its last number on.
-unfoldable pub place : List ℤ → ℕ
-place [] = 0
-place (x ∷ rest) = stand_before (length rest) (pulse_sum rest) x + place rest
-
 pub pulse_sum-cons : (x : ℤ) (rest : List ℤ) → pulse_sum (x ∷ rest) ≡ unsigned_abs x + pulse_sum rest
 unfolding pulse_sum
 pulse_sum-cons x rest = sum_by-cons unsigned_abs x rest
@@ -166,16 +161,16 @@ placed n t r rest g (negsuc c) =
     rw q (back_place n (suc c + t) (suc c) t r rest refl (omega arith) g)
 
 -- Every vector stands at its place.
-pub place-get : (y : List ℤ) → slice_get (vectors (length y) (pulse_sum y)) (place y) ≡ Some y
-unfolding vectors pulse_sum place
+pub place-get : (y : List ℤ) → slice_get (vectors (length y) (pulse_sum y)) (rank_of y) ≡ Some y
+unfolding vectors pulse_sum rank_of
 place-get [] = refl
-place-get (x ∷ rest) = rw (pulse_sum-cons x rest) (placed (length rest) (pulse_sum rest) (place rest) rest (place-get rest) x)
+place-get (x ∷ rest) = rw (pulse_sum-cons x rest) (placed (length rest) (pulse_sum rest) (rank_of rest) rest (place-get rest) x)
 
 -- What is known of a vector that stands at place i of the list.
 pub record Stands (n k i : ℕ) (y : List ℤ) : Type 0 where
   pub long : length y ≡ n
   pub full : pulse_sum y ≡ k
-  pub at : i ≡ place y
+  pub at : i ≡ rank_of y
 
 -- A place among all vectors of n + 1 numbers, by the sign of the first number.
 pub data Found (n k i : ℕ) : Type 0 where
@@ -209,7 +204,7 @@ within_count n k i y g = slice_get_within (vectors n k) i y g
 
 front_stands : (n k i c t r : ℕ) (rest : List ℤ) → c + t ≡ k → i ≡ count_below n t + r → Stands n t r rest
     → Stands (suc n) k i (pos c ∷ rest)
-unfolding place stand_before
+unfolding rank_of stand_before
 front_stands n k i c t r rest e q s =
     let l : length rest ≡ n = s.long in
     let f : pulse_sum rest ≡ t = s.full in
@@ -217,7 +212,7 @@ front_stands n k i c t r rest e q s =
 
 back_stands : (n k i c t r : ℕ) (rest : List ℤ) → c + t ≡ k → 0 < c → i ≡ count_below n (suc k) + (count_below n t + r) → Stands n t r rest
     → Stands (suc n) k i (minus c ∷ rest)
-unfolding place stand_before
+unfolding rank_of stand_before
 back_stands n k i zero t r rest e h q s = absurd (omega arith)
 back_stands n k i (suc c) t r rest e h q s =
     let l : length rest ≡ n = s.long in
@@ -231,7 +226,7 @@ same_vector n k i j x y e g h s =
     subst (Stands n k i) q s
 
 empty_stands : Stands 0 0 0 []
-unfolding pulse_sum place
+unfolding pulse_sum rank_of
 empty_stands = record { long = refl; full = refl; at = refl }
 
 -- Nothing else stands there: a vector found in the list has n numbers and k pulses, and stands at
@@ -261,4 +256,4 @@ there_vector n k y h =
 pub vector_there : (n k : ℕ) (y : List ℤ) → (length y ≡ n) × (pulse_sum y ≡ k) → Contains (vectors n k) y
 vector_there n k y h =
     let g = rw (h.0, h.1) at (place-get y) in
-    (place y, slice_get_within (vectors n k) (place y) y g, get_or_from_slice_get (vectors n k) (place y) y y g)
+    (rank_of y, slice_get_within (vectors n k) (rank_of y) y g, get_or_from_slice_get (vectors n k) (rank_of y) y y g)

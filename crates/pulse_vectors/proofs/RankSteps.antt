@@ -1,13 +1,14 @@
 -- How far the loops of rank and unrank have come.
-use Rattle.std.proofs.Common.{◌≡◌, ℕ, zero, suc, ◌+◌, ◌-◌, ◌<◌, ◌≤◌, List, [], ◌∷◌, length, drop, take, set, ◌++◌, get_or, refl, sym, ◌∙◌, ap, arith, add-one, length-drop, subst, append-nil}
+use Rattle.std.proofs.Common.{◌≡◌, ℕ, zero, suc, ◌+◌, ◌-◌, ◌*◌, ◌<◌, ◌≤◌, inl, inr, List, [], ◌∷◌, length, drop, take, set, ◌++◌, get_or, replicate, refl, sym, ◌∙◌, ap, arith, add-one, length-drop, subst, append-nil}
 use Rattle.std.specs.Prelude.{ℤ, pos, unsigned_abs, slice_get, Some}
 use Rattle.std.proofs.Math.Seq.{drop-cons, drop-length, take-suc-set, append_snoc}
-use Rattle.std.proofs.lemmas.List.{take_all}
+use Rattle.std.proofs.lemmas.Bool.{cases_lt}
+use Rattle.std.proofs.lemmas.List.{take_all, length-set, length-replicate, drop-set-lt, drop-drop, take-append-drop}
 use Rattle.std.proofs.lemmas.List.Sums.{sum_by-take-drop}
-use Rattle.pulse_vectors.specs.Rows.{count_below, stand_before, Leads}
+use Rattle.pulse_vectors.specs.Rows.{count_below, stand_before, rank_of, Leads}
 use Rattle.pulse_vectors.specs.Vectors.{count_of, pulse_sum, vectors, minus}
-use Rattle.pulse_vectors.proofs.Places.{place, place-get, place-only, pulse_sum-cons, within_count, front_place, back_place, minus_size, below-zero}
-use Rattle.pulse_vectors.proofs.RowSteps.{count_rises}
+use Rattle.pulse_vectors.proofs.Places.{count-suc, below-suc, place-get, place-only, pulse_sum-cons, within_count, front_place, back_place, minus_size, below-zero}
+use Rattle.pulse_vectors.proofs.RowSteps.{count_rises, count-none-suc}
 use Rattle.pulse_vectors.proofs.Counts.{count_grows, count-no-pulses}
 
 -- What a loop from the last number to the first knows, i numbers left: the pulses and the place of
@@ -15,7 +16,7 @@ use Rattle.pulse_vectors.proofs.Counts.{count_grows, count-no-pulses}
 pub record Ranked (y : List ℤ) (i behind at : ℕ) : Type 0 where
   pub within : i ≤ length y
   pub behind_is : behind ≡ pulse_sum (drop i y)
-  pub at_is : at ≡ place (drop i y)
+  pub at_is : at ≡ rank_of (drop i y)
 
 -- The same with the row of the numbers behind.
 pub record RankedBy (y : List ℤ) (i behind at numbers pulses : ℕ) : Type 0 where
@@ -23,8 +24,8 @@ pub record RankedBy (y : List ℤ) (i behind at numbers pulses : ℕ) : Type 0 w
   pub numbers_is : numbers + i ≡ length y
   pub pulses_is : pulses ≡ pulse_sum y
 
-pub place-cons : (x : ℤ) (rest : List ℤ) → place (x ∷ rest) ≡ stand_before (length rest) (pulse_sum rest) x + place rest
-unfolding place
+pub place-cons : (x : ℤ) (rest : List ℤ) → rank_of (x ∷ rest) ≡ stand_before (length rest) (pulse_sum rest) x + rank_of rest
+unfolding rank_of
 place-cons x rest = refl
 
 pub pulse_sum-drop : (i : ℕ) (y : List ℤ) → pulse_sum (drop i y) ≤ pulse_sum y
@@ -32,7 +33,7 @@ unfolding pulse_sum
 pulse_sum-drop i y = omega (arith, sum_by-take-drop unsigned_abs y i)
 
 pub ranked-start : (y : List ℤ) (i : ℕ) → i ≡ length y → Ranked y i 0 0
-unfolding pulse_sum place
+unfolding pulse_sum rank_of
 ranked-start y i e = rw e (record { within = omega arith; behind_is = rw (drop-length y) refl; at_is = rw (drop-length y) refl })
 
 -- The next number and those behind it.
@@ -40,7 +41,7 @@ pub next-sum : (y : List ℤ) (i : ℕ) → i < length y → pulse_sum (drop i y
 next-sum y i h = rw (add-one, drop-cons y i (pos 0) h) (pulse_sum-cons (get_or y i (pos 0)) (drop (suc i) y))
 
 pub next-place : (y : List ℤ) (i : ℕ) → i < length y
-    → place (drop i y) ≡ stand_before (length (drop (i + 1) y)) (pulse_sum (drop (i + 1) y)) (get_or y i (pos 0)) + place (drop (i + 1) y)
+    → rank_of (drop i y) ≡ stand_before (length (drop (i + 1) y)) (pulse_sum (drop (i + 1) y)) (get_or y i (pos 0)) + rank_of (drop (i + 1) y)
 next-place y i h = rw (add-one, drop-cons y i (pos 0) h) (place-cons (get_or y i (pos 0)) (drop (suc i) y))
 
 -- The pulses fit: the next number and those behind it hold no more than the vector.
@@ -75,8 +76,8 @@ ranked_by-next y left i behind at size ahead numbers pulses more same e r e1 e2 
     }
 
 -- The place of the numbers behind is below the count of whole vectors.
-pub place-below : (y : List ℤ) → place y < count_of (length y) (pulse_sum y)
-place-below y = within_count (length y) (pulse_sum y) (place y) y (place-get y)
+pub place-below : (y : List ℤ) → rank_of y < count_of (length y) (pulse_sum y)
+place-below y = within_count (length y) (pulse_sum y) (rank_of y) y (place-get y)
 
 pub count-rises : (n j k : ℕ) → 0 < n → j ≤ k → count_of n j ≤ count_of n k
 count-rises zero j k h b = absurd (omega arith)
@@ -92,12 +93,17 @@ ranked-below y i behind at r h =
 pub ranked-end : (y : List ℤ) (i behind at : ℕ) → i ≡ 0 → Ranked y i behind at → slice_get (vectors (length y) (pulse_sum y)) at ≡ Some y
 ranked-end y i behind at e r0 =
     let r = let P : ℕ → Type 0 = λ n. Ranked y n behind at in subst P e r0 in
-    let q : at ≡ place y = r.at_is in rw q (place-get y)
+    let q : at ≡ rank_of y = r.at_is in rw q (place-get y)
+
+pub ranked-value : (y : List ℤ) (i behind at : ℕ) → i ≡ 0 → Ranked y i behind at → at ≡ rank_of y
+ranked-value y i behind at e r0 =
+    let r = let P : ℕ → Type 0 = λ n. Ranked y n behind at in subst P e r0 in
+    r.at_is
 
 pub ranked-only : (y : List ℤ) (i behind at j : ℕ) → i ≡ 0 → Ranked y i behind at → slice_get (vectors (length y) (pulse_sum y)) j ≡ Some y → j ≡ at
 ranked-only y i behind at j e r0 g =
     let r = let P : ℕ → Type 0 = λ n. Ranked y n behind at in subst P e r0 in
-    let q : at ≡ place y = r.at_is in
+    let q : at ≡ rank_of y = r.at_is in
     (place-only (length y) (pulse_sum y) j y g).at ∙ sym q
 
 -- What a loop from the first number to the last knows, the first i of them written: where the
@@ -169,8 +175,124 @@ ranked-next-at y left i behind at size ahead numbers e n r e1 e2 =
 pub stands-full : (n k index : ℕ) (y : List ℤ) → slice_get (vectors n k) index ≡ Some y → pulse_sum y ≡ k
 stands-full n k index y g = (place-only n k index y g).full
 
--- Without pulses one vector is left, of zeros.
-pub none-leads : (n k index : ℕ) → k ≡ 0 → index < count_of (n + 1) k → Leads n k index (pos 0) 0 0
-none-leads n k index e h =
-    let h' = rw (e, count-no-pulses (n + 1)) at h in
-    rw e (front-leads n 0 index 0 0 (omega arith) (omega (arith, below-zero n)) (omega (arith, count-no-pulses n)))
+-- ---- few pulses
+
+-- Without pulses there is one vector, of zeros.
+zeros-get : (n : ℕ) → slice_get (vectors n 0) 0 ≡ Some (replicate n (pos 0))
+unfolding vectors
+zeros-get zero = refl
+zeros-get (suc n) =
+    let e : count_below n 0 + 0 ≡ 0 = omega (arith, below-zero n) in
+    let g = front_place n 0 0 0 0 (replicate n (pos 0)) refl (zeros-get n) in
+    rw e at g
+
+pub count-one : (n : ℕ) → count_of n 1 ≡ 2 * n
+count-one zero = count-none-suc 0
+count-one (suc n) = omega (arith, count-suc n 1, below-suc n 0, below-zero n, count-no-pulses n, count-one n)
+
+-- With one pulse, from the first number to the last it is 1 ..
+pub front-pulse : (n p : ℕ) → p < n → slice_get (vectors n 1) p ≡ Some (set (replicate n (pos 0)) p (pos 1))
+front-pulse zero p h = absurd (omega arith)
+front-pulse (suc n) zero h =
+    let e : count_below n 0 + 0 ≡ 0 = omega (arith, below-zero n) in
+    let g = front_place n 1 1 0 0 (replicate n (pos 0)) refl (zeros-get n) in
+    rw e at g
+front-pulse (suc n) (suc p) h =
+    let e : count_below n 1 + p ≡ suc p = omega (arith, below-suc n 0, below-zero n, count-no-pulses n) in
+    let g = front_place n 1 0 1 p (set (replicate n (pos 0)) p (pos 1)) refl (front-pulse n p (omega arith)) in
+    rw e at g
+
+-- .. and then from the last to the first -1.
+pub back-pulse : (n q p : ℕ) → q < n → p + q + 1 ≡ 2 * n → slice_get (vectors n 1) p ≡ Some (set (replicate n (pos 0)) q (minus 1))
+back-pulse zero q p h e = absurd (omega arith)
+back-pulse (suc n) zero p h e =
+    let at : count_below n 2 + (count_below n 0 + 0) ≡ p = omega (arith, below-suc n 1, below-suc n 0, below-zero n, count-no-pulses n, count-one n) in
+    let g = back_place n 1 1 0 0 (replicate n (pos 0)) refl (omega arith) (zeros-get n) in
+    rw at at g
+back-pulse (suc n) (suc q) p h e =
+    let at : count_below n 1 + (p - 1) ≡ p = omega (arith, below-suc n 0, below-zero n, count-no-pulses n) in
+    let g = front_place n 1 0 1 (p - 1) (set (replicate n (pos 0)) q (minus 1)) refl (back-pulse n q (p - 1) (omega arith) (omega arith)) in
+    rw at at g
+
+-- What a loop knows that has written the first i numbers into zeros.
+pub record Writing (n k index : ℕ) (y : List ℤ) (i left at : ℕ) : Type 0 where
+  pub unranked : Unranked n k index y i left at
+  pub within : i ≤ n
+  pub long : length y ≡ n
+  pub zeros : drop i y ≡ replicate (n - i) (pos 0)
+
+pub writing-start : (n k index : ℕ) (y : List ℤ) (i : ℕ) → i ≡ 0 → y ≡ replicate n (pos 0) → index < count_of n k → Writing n k index y i k index
+writing-start n k index y i e q h =
+    let whole : n - 0 ≡ n = omega arith in
+    rw e (record {
+      unranked = record { few = omega arith; inside = rw whole h; joined = rw whole (λ rest g. g) };
+      within = omega arith;
+      long = rw q (length-replicate n (pos 0));
+      zeros = rw whole q;
+    })
+
+-- Where pulses are left, a number is.
+pub writing-more : (n k index : ℕ) (y : List ℤ) (i left at : ℕ) → 1 ≤ left → Writing n k index y i left at → i < n
+writing-more n k index y i zero at h w = absurd (omega arith)
+writing-more n k index y i (suc left) at h w = elim (cases_lt i n) [
+  | inl more ↦ more
+  | inr past ↦
+      let none : n - i ≡ 0 = omega arith in
+      let inside = rw none at w.unranked.inside in
+      absurd (omega (arith, count-none-suc left))
+]
+
+pub writing-next : (n k index : ℕ) (y : List ℤ) (i left at m : ℕ) (x : ℤ) (t r : ℕ) → n - i ≡ suc m → Writing n k index y i left at
+    → Leads m left at x t r → Writing n k index (set y i x) (i + 1) t r
+writing-next n k index y i left at m x t r e w l =
+    let next : n - (i + 1) ≡ m = omega arith in
+    let zeros = rw e at w.zeros in
+    record {
+      unranked = unranked-next n k index y i left at m x t r w.long e w.unranked l;
+      within = omega arith;
+      long = length-set y i x ∙ w.long;
+      zeros = rw next (drop-set-lt (i + 1) y i x (omega arith) ∙ sym (drop-drop 1 i y) ∙ ap (drop 1) zeros);
+    }
+
+-- No pulse is left.
+pub writing-none : (n k index : ℕ) (y : List ℤ) (i left at : ℕ) → left ≡ 0 → Writing n k index y i left at → slice_get (vectors n k) index ≡ Some y
+writing-none n k index y i left at e w =
+    let inside = rw (e, count-no-pulses (n - i)) at w.unranked.inside in
+    let first : at ≡ 0 = omega arith in
+    let joined = rw (e, first) at w.unranked.joined in
+    joined (replicate (n - i) (pos 0)) (zeros-get (n - i)) ∙ ap Some (ap (λ z. take i y ++ z) (sym w.zeros) ∙ take-append-drop i y)
+
+set-behind : (i p : ℕ) (y : List ℤ) (v : ℤ) → i ≤ length y → set y (i + p) v ≡ take i y ++ set (drop i y) p v
+set-behind zero p y v h = let e : 0 + p ≡ p = omega arith in rw e refl
+set-behind (suc i) p [] v h = absurd (omega arith)
+set-behind (suc i) p (x ∷ xs) v h = let e : suc i + p ≡ suc (i + p) = omega arith in rw e (ap (λ z. x ∷ z) (set-behind i p xs v (omega arith)))
+
+-- One is.
+pub writing-one : (n k index : ℕ) (y : List ℤ) (i left at p : ℕ) (v : ℤ) → left ≡ 1 → Writing n k index y i left at
+    → slice_get (vectors (n - i) 1) at ≡ Some (set (replicate (n - i) (pos 0)) p v) → slice_get (vectors n k) index ≡ Some (set y (i + p) v)
+writing-one n k index y i left at p v e w g =
+    let joined = rw e at w.unranked.joined in
+    joined (set (replicate (n - i) (pos 0)) p v) g
+    ∙ ap Some (ap (λ z. take i y ++ set z p v) (sym w.zeros) ∙ sym (set-behind i p y v (omega (arith, w.within, w.long))))
+
+-- The same in the words of the code, by how many numbers are behind.
+pub writing-left : (n k index : ℕ) (y : List ℤ) (behind left at : ℕ) → behind ≤ n → 1 ≤ left → Writing n k index y (n - behind) left at → 1 ≤ behind
+writing-left n k index y behind left at b h w = omega (arith, writing-more n k index y (n - behind) left at h w)
+
+pub writing-inside : (n k index : ℕ) (y : List ℤ) (behind left at : ℕ) → behind ≤ n → Writing n k index y (n - behind) left at → at < count_of behind left
+writing-inside n k index y behind left at b w =
+    let e : n - (n - behind) ≡ behind = omega arith in
+    let h = rw e at w.unranked.inside in h
+
+pub writing-turn : (n k index : ℕ) (y : List ℤ) (behind left at place : ℕ) (x : ℤ) (t r : ℕ) → 1 ≤ behind → behind ≤ n → place ≡ n - behind
+    → Writing n k index y (n - behind) left at → Leads (behind - 1) left at x t r → Writing n k index (set y place x) (n - (behind - 1)) t r
+writing-turn n k index y behind left at place x t r h b e w l =
+    let next : n - (behind - 1) ≡ n - behind + 1 = omega arith in
+    rw (next, e) (writing-next n k index y (n - behind) left at (behind - 1) x t r (omega arith) w l)
+
+pub writing-end : (n k index : ℕ) (y : List ℤ) (behind left at place p : ℕ) (v : ℤ) → left ≡ 1 → behind ≤ n → place ≡ n - behind + p
+    → Writing n k index y (n - behind) left at → slice_get (vectors behind 1) at ≡ Some (set (replicate behind (pos 0)) p v)
+    → slice_get (vectors n k) index ≡ Some (set y place v)
+writing-end n k index y behind left at place p v e b q w g =
+    let same : n - (n - behind) ≡ behind = omega arith in
+    rw q (writing-one n k index y (n - behind) left at p v e w (rw same g))

@@ -1,5 +1,5 @@
-//! What vectors cost and which index a number of bits buys (RFC 6716, section 4.3.4.1), for a
-//! question or two. Who has many keeps a `PulseTable`.
+//! What vectors cost and which index a number of bits buys (RFC 6716, section 4.3.4.1), as the table
+//! says it.
 
 ghost use Rattle.std.specs.Prelude.{◌≡◌, ◌≤◌};
 ghost use Rattle.pulse_vectors.specs.Costs.{last_of, cost_at, index_near};

@@ -3,6 +3,7 @@
 ghost use Rattle.std.specs.Prelude.{◌≡◌, ℕ, ℤ, Some, ◌+◌, pos, ◌-ℤ◌, unsigned_abs, ◌^◌, ◌<◌, ◌≤◌, ◌↔◌, List, length, slice_get};
 ghost use Rattle.std.specs.List.{Contains};
 ghost use Rattle.pulse_vectors.specs.Costs.{pulses_at, last_of, log_eighths, cost_at, index_near};
+ghost use Rattle.pulse_vectors.specs.Rows.{rank_of};
 ghost use Rattle.pulse_vectors.specs.Vectors.{pulse_sum, vectors, count_of};
 
 /// The list holds exactly the vectors of n numbers whose sizes add up to k.
@@ -21,6 +22,13 @@ pub fn law_counts()
     ensures no_pulses { (n : ℕ) → count_of n 0 ≡ 1 }
     ensures no_numbers { (k : ℕ) → count_of 0 (k + 1) ≡ 0 }
     ensures three { (n k : ℕ) → count_of (n + 1) (k + 1) ≡ count_of n (k + 1) + count_of (n + 1) k + count_of n k }
+{}
+
+/// Each vector stands at its place in the list of all vectors of its length and its number of pulses, and
+/// nowhere else.
+pub fn law_rank()
+    ensures stands { (y : List ℤ) → slice_get (vectors (length y) (pulse_sum y)) (rank_of y) ≡ Some y }
+    ensures only { (n k i : ℕ) (y : List ℤ) → slice_get (vectors n k) i ≡ Some y → i ≡ rank_of y }
 {}
 
 /// Costs never fall as the index rises.

@@ -25,14 +25,15 @@
 //! ```
 //!
 //! A `Row` is one line of this table, which goes down and up by the recurrence, and `rank` and
-//! `unrank` go by one: N * K steps. A `PulseTable` keeps the sums of all lines that a frame can ask
-//! for, and an index then leads to its numbers in about N + K steps.
+//! `unrank` go by one: N * K steps. A `PulseTable` has the sums of all lines that a frame can ask for
+//! as constants, and an index then leads to its numbers in about N + K steps.
 //!
 //! Instead of a number of pulses a frame has an index, 0 to 40, of one of 41 numbers up to 128. The
 //! cost of an index is the logarithm of V in eighths of a bit, rounded up, and a number of bits buys
 //! the index whose cost is nearest.
 #![tactic(auto)]
 
+mod constants;
 mod costs;
 mod laws;
 mod pulses;
@@ -45,7 +46,7 @@ mod tests;
 pub use costs::{cost, index_for, last_index};
 pub use laws::{
     law_costs_never_fall, law_counts, law_eighths_cover, law_index_is_nearest, law_last_index_fits,
-    law_no_vector_twice, law_vectors_are_all,
+    law_no_vector_twice, law_rank, law_vectors_are_all,
 };
 pub use pulses::pulses_of;
 pub use ranks::{count, rank, unrank};

@@ -7,7 +7,7 @@
 //! and half the difference of two neighbouring rows at t is the sum of the first of them before t.
 
 ghost use Rattle.std.specs.Prelude.{◌≡◌, ℕ, ◌+◌, ◌-◌, ◌^◌, ◌<◌, ◌≤◌, length, unsigned_abs, slice_get};
-ghost use Rattle.pulse_vectors.specs.Rows.{Leads, count_below, stand_before};
+ghost use Rattle.pulse_vectors.specs.Rows.{Leads, count_below, stand_before, rank_of};
 ghost use Rattle.pulse_vectors.specs.Vectors.{vectors, count_of, pulse_sum};
 
 use crate::row::Row;
@@ -71,6 +71,7 @@ pub fn rank(y: &[i32]) -> u32
     requires fits { count_of (length y.now) (pulse_sum y.now) < 2 ^ 32 }
     ensures below { result < count_of (length y.now) (pulse_sum y.now) }
     ensures stands { slice_get (vectors (length y.now) (pulse_sum y.now)) result ≡ Some y.now }
+    ensures value { result ≡ rank_of y.now }
     ensures only { (i : ℕ) → slice_get (vectors (length y.now) (pulse_sum y.now)) i ≡ Some y.now → i ≡ result }
 {
     let mut row = Row::new(pulses_in(y));

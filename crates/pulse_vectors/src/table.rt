@@ -5,51 +5,25 @@
 //! number is not negative and has at most t pulses behind it are the first S(m, t) of the order. So
 //! an index leads straight to its first number, and V(m + 1, t) = S(m, t) + S(m, t - 1).
 
-ghost use Rattle.std.specs.Prelude.{◌≡◌, ℕ, ◌+◌, ◌-◌, ◌^◌, ◌<◌, ◌≤◌, length, unsigned_abs, slice_get};
+ghost use Rattle.std.specs.Prelude.{◌≡◌, ℕ, ◌+◌, ◌-◌, ◌^◌, ◌<◌, ◌≤◌, length, unsigned_abs, slice_get, slice_set, replicate, pos};
 ghost use Rattle.pulse_vectors.specs.Costs.{last_of, cost_at, index_below, index_near};
-ghost use Rattle.pulse_vectors.specs.Rows.{Leads, count_below, stand_before};
-ghost use Rattle.pulse_vectors.specs.Tables.{HasPlace, IsSums, IsSumsBelow, start_of};
+ghost use Rattle.pulse_vectors.specs.Rows.{Leads, count_below, stand_before, rank_of};
+ghost use Rattle.pulse_vectors.specs.Tables.{HasPlace, start_of, sum_at, cost_start_of, cost_entry};
 ghost use Rattle.pulse_vectors.specs.Vectors.{vectors, count_of, pulse_sum};
 
-use crate::pulses::{eighths_of, pulses_of};
+use crate::constants::{COST_STARTS, COSTS, STARTS, SUMS};
 use crate::ranks::Number;
 
-/// Where the sums of m numbers begin in the table, for m from 0 to 175, and the table's length at
-/// 176. They go from t = 0 to the most pulses, up to 128, with which fewer than 2^32 vectors of
-/// m + 1 numbers are.
-const STARTS: [u16; 177] = [
-    0, 129, 258, 387, 516, 645, 741, 795, 832, 860, 883, 902, 919, 935, 949, 962, 975, 987, 999,
-    1010, 1021, 1031, 1041, 1051, 1061, 1070, 1079, 1088, 1097, 1106, 1114, 1122, 1130, 1138, 1146,
-    1154, 1162, 1170, 1178, 1186, 1194, 1201, 1208, 1215, 1222, 1229, 1236, 1243, 1250, 1257, 1264,
-    1271, 1278, 1285, 1292, 1299, 1306, 1313, 1320, 1327, 1334, 1340, 1346, 1352, 1358, 1364, 1370,
-    1376, 1382, 1388, 1394, 1400, 1406, 1412, 1418, 1424, 1430, 1436, 1442, 1448, 1454, 1460, 1466,
-    1472, 1478, 1484, 1490, 1496, 1502, 1508, 1514, 1520, 1526, 1532, 1538, 1544, 1550, 1556, 1562,
-    1568, 1574, 1580, 1586, 1592, 1598, 1604, 1610, 1616, 1622, 1628, 1633, 1638, 1643, 1648, 1653,
-    1658, 1663, 1668, 1673, 1678, 1683, 1688, 1693, 1698, 1703, 1708, 1713, 1718, 1723, 1728, 1733,
-    1738, 1743, 1748, 1753, 1758, 1763, 1768, 1773, 1778, 1783, 1788, 1793, 1798, 1803, 1808, 1813,
-    1818, 1823, 1828, 1833, 1838, 1843, 1848, 1853, 1858, 1863, 1868, 1873, 1878, 1883, 1888, 1893,
-    1898, 1903, 1908, 1913, 1918, 1923, 1928, 1933, 1938, 1943, 1948, 1953, 1958, 1963,
-];
-
-/// All sums S(m, t) that the vectors of a frame need: those with up to 176 numbers and up to 128
-/// pulses, where there are fewer than 2^32 of them. It takes no memory.
-#[derive(Drop)]
-pub struct PulseTable {
-    /// S(m, t) at place `STARTS[m] + t`.
-    sums: [u32; 1963],
-    ghost prefix: { IsSums sums },
-}
+/// All sums S(m, t) that the vectors of a frame need, those with up to 176 numbers and up to 128
+/// pulses, where there are fewer than 2^32 of them, and what each index costs. They are constants: it
+/// takes no memory, and nothing is done to make it.
+#[derive(Clone, Copy, Debug)]
+pub struct PulseTable;
 
 impl PulseTable {
-    /// The table, made from the recurrence.
-    pub fn new() -> PulseTable
-        ensures { IsSums result.sums }
-    {
-        let mut sums = [1; 1963];
-        for m in 1..176 {
-            fill_row(&mut sums, m);
-        }
-        PulseTable { sums }
+    /// The table.
+    pub fn new() -> PulseTable {
+        PulseTable
     }
 
     /// V(numbers, pulses), at least 1. `numbers` is 1 to 176, `pulses` at most 128, and there are fewer
@@ -72,6 +46,7 @@ impl PulseTable {
         requires fits { count_of (length y.now) (pulse_sum y.now) < 2 ^ 32 }
         ensures below { result < count_of (length y.now) (pulse_sum y.now) }
         ensures stands { slice_get (vectors (length y.now) (pulse_sum y.now)) result ≡ Some y.now }
+        ensures value { result ≡ rank_of y.now }
         ensures only { (i : ℕ) → slice_get (vectors (length y.now) (pulse_sum y.now)) i ≡ Some y.now → i ≡ result }
     {
         let mut behind = 0;
@@ -94,15 +69,20 @@ impl PulseTable {
         ensures stands { slice_get (vectors (length y.old) pulses) index ≡ Some y.new }
         ensures pulses { pulse_sum y.new ≡ pulses }
     {
-        let mut behind = y.len() as u32;
+        y.fill(0);
+        let mut behind = y.len();
         let mut left = pulses;
         let mut place = index;
-        for x in y.iter_mut() {
+        while left > 1 {
             behind -= 1;
-            let number = self.first_number(behind, place, left);
-            *x = number.value;
+            let number = self.first_number(behind as u32, place, left);
+            y[y.len() - 1 - behind] = number.value;
             left = number.behind;
             place = number.place;
+        }
+        if left == 1 {
+            let pulse = only_pulse(behind, place as usize);
+            y[y.len() - behind + pulse.place] = pulse.value;
         }
     }
 
@@ -113,12 +93,7 @@ impl PulseTable {
         ensures exact { result ≡ last_of numbers }
         ensures most { result ≤ 40 }
     {
-        let most = (start_of(numbers) - start_of(numbers - 1) - 1) as u32;
-        let mut index = most.min(40);
-        while pulses_of(index) > most {
-            index -= 1;
-        }
-        index
+        (cost_start_of(numbers) - cost_start_of(numbers - 1) - 1) as u32
     }
 
     /// What an index costs for vectors of `numbers` numbers, from 2 to 176: the logarithm of their
@@ -130,11 +105,7 @@ impl PulseTable {
         ensures exact { result ≡ cost_at numbers index }
         ensures most { result ≤ 264 }
     {
-        if index == 0 {
-            0
-        } else {
-            eighths_of(self.count(numbers, pulses_of(index)))
-        }
+        cost_entry(cost_start_of(numbers - 1) + index as usize)
     }
 
     /// The index whose cost is nearest to `bits` eighths of a bit, the lower at equal distances, for
@@ -190,19 +161,13 @@ impl PulseTable {
     }
 
     /// The first number of the vector at place `index` with `numbers` numbers behind the first and
-    /// `pulses` pulses.
+    /// `pulses` pulses, at least one.
     fn first_number(&self, numbers: u32, index: u32, pulses: u32) -> Number
+        requires some { 1 ≤ pulses }
         requires place { HasPlace numbers pulses }
         requires below { index < count_of (numbers + 1) pulses }
         ensures { Leads numbers pulses index result.value result.behind result.place }
     {
-        if pulses == 0 {
-            return Number {
-                value: 0,
-                behind: 0,
-                place: 0,
-            };
-        }
         let upper = self.sum(numbers, pulses);
         if index < upper {
             let behind = self.pulses_behind(numbers, index, pulses);
@@ -242,7 +207,7 @@ impl PulseTable {
         requires { HasPlace numbers pulses }
         ensures { result ≡ count_below numbers (pulses + 1) }
     {
-        self.sums[start_of(numbers) + pulses as usize]
+        sum_at(start_of(numbers) + pulses as usize + 1)
     }
 
     /// S(numbers, pulses - 1), which is 0 for no pulses.
@@ -250,10 +215,35 @@ impl PulseTable {
         requires { HasPlace numbers pulses }
         ensures { result ≡ count_below numbers pulses }
     {
-        if pulses == 0 {
-            0
-        } else {
-            self.sum(numbers, pulses - 1)
+        sum_at(start_of(numbers) + pulses as usize)
+    }
+}
+
+/// One pulse and where it stands.
+#[derive(Clone, Copy)]
+struct Pulse {
+    place: usize,
+    /// 1 or -1.
+    value: i32,
+}
+
+/// The pulse of the vector that stands at place `index` among those of `numbers` numbers with one
+/// pulse: from the first number to the last it is 1, and from the last to the first -1.
+fn only_pulse(numbers: usize, index: usize) -> Pulse
+    requires numbers { numbers ≤ 176 }
+    requires below { index < count_of numbers 1 }
+    ensures place { result.place < numbers }
+    ensures stands { slice_get (vectors numbers 1) index ≡ Some (slice_set (replicate numbers (pos 0)) result.place result.value) }
+{
+    if index < numbers {
+        Pulse {
+            place: index,
+            value: 1,
+        }
+    } else {
+        Pulse {
+            place: 2 * numbers - 1 - index,
+            value: -1,
         }
     }
 }
@@ -267,21 +257,29 @@ fn start_of(numbers: u32) -> usize
     STARTS[numbers as usize] as usize
 }
 
-/// Makes the sums of `numbers` numbers from those of one number fewer.
-fn fill_row(sums: &mut [u32; 1963], numbers: u32)
-    requires numbers { (1 ≤ numbers) × (numbers < 176) }
-    requires before { IsSumsBelow numbers sums.old }
-    ensures { IsSumsBelow (numbers + 1) sums.new }
+/// An entry of the sums.
+#[tactic(auto, unfolding(crate::specs::Tables::sum_at))]
+fn sum_at(place: usize) -> u32
+    requires { place < 2139 }
+    ensures { result ≡ sum_at place }
 {
-    let below = start_of(numbers - 1);
-    let start = start_of(numbers);
-    let len = start_of(numbers + 1) - start;
-    let mut last = 0;
-    let mut before = 0;
-    for t in 0..len {
-        let here = sums[below + t];
-        last = last + before + here;
-        before = here;
-        sums[start + t] = last;
-    }
+    SUMS[place]
+}
+
+/// Where the costs for vectors of one number more begin.
+#[tactic(auto, unfolding(crate::specs::Tables::cost_start_of))]
+fn cost_start_of(numbers: u32) -> usize
+    requires { numbers ≤ 176 }
+    ensures { result ≡ cost_start_of numbers }
+{
+    COST_STARTS[numbers as usize] as usize
+}
+
+/// An entry of the costs.
+#[tactic(auto, unfolding(crate::specs::Tables::cost_entry))]
+fn cost_entry(place: usize) -> u32
+    requires { place < 1418 }
+    ensures { result ≡ cost_entry place }
+{
+    COSTS[place] as u32
 }

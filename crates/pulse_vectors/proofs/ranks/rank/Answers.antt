@@ -5,7 +5,7 @@ use mir.Syntax.{w32}
 use Rattle.std.proofs.lemmas.Int.{to_z-of_z}
 use Rattle.pulse_vectors.specs.Vectors.{pulse_sum}
 use Rattle.pulse_vectors.proofs.Counts.{count_grows}
-use Rattle.pulse_vectors.proofs.RankSteps.{ranked-start, next-fits, ranked_by-next, ranked-below, ranked-end, ranked-only}
+use Rattle.pulse_vectors.proofs.RankSteps.{ranked-start, next-fits, ranked_by-next, ranked-below, ranked-end, ranked-value, ranked-only}
 use Rattle.pulse_vectors.proofs.ranks.rank.Goals as goal
 
 pub loop-i-init : goal.loop-i-init
@@ -49,3 +49,6 @@ returns-clause-stands c = ranked-end _ _ _ _ (omega arith) c.loop-i.invariant.ra
 
 pub returns-clause-only : goal.returns-clause-only
 returns-clause-only c = λ i g. ranked-only _ _ _ _ i (omega arith) c.loop-i.invariant.ranked g
+
+pub returns-clause-value : goal.returns-clause-value
+returns-clause-value c = ranked-value _ _ _ _ (omega arith) c.loop-i.invariant.ranked

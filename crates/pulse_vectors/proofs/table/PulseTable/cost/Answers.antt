@@ -1,13 +1,21 @@
-use Rattle.std.proofs.Common.{arith}
-use Rattle.pulse_vectors.proofs.CostSteps.{index-count-fits, cost-none, cost-some}
+use Rattle.std.proofs.Common.{arith, ap, ◌+◌, ◌∙◌}
+use Rattle.pulse_vectors.specs.Tables.{cost_entry}
+use Rattle.pulse_vectors.proofs.CostSteps.{last-is, costs-end, cost-is}
 use Rattle.pulse_vectors.proofs.table.PulseTable.cost.Goals as goal
 
-pub count-requires-clause-fits : goal.count-requires-clause-fits
-count-requires-clause-fits c = index-count-fits c.args.numbers c.args.index _ (omega arith) c.requires.index.1 c.pulses_of.ensures.exact
+pub overflow_add-cost_start_of : goal.overflow_add-cost_start_of
+overflow_add-cost_start_of c =
+    omega (arith, last-is c.args.numbers (omega arith) (omega arith), costs-end c.args.numbers (omega arith) (omega arith), c.cost_start_of.ensures, c.requires.index.1)
 
-pub returns-then-index-eq0-clause-exact : goal.returns-then-index-eq0-clause-exact
-returns-then-index-eq0-clause-exact c = cost-none c.args.numbers c.args.index (omega arith)
+pub cost_entry-requires : goal.cost_entry-requires
+cost_entry-requires c =
+    omega (arith, last-is c.args.numbers (omega arith) (omega arith), costs-end c.args.numbers (omega arith) (omega arith), c.cost_start_of.ensures, c.requires.index.1)
 
-pub returns-else-index-eq0-clause-exact : goal.returns-else-index-eq0-clause-exact
-returns-else-index-eq0-clause-exact c =
-    cost-some c.args.numbers c.args.index _ _ _ (omega arith) c.pulses_of.ensures.exact c.count.ensures.exact c.eighths_of.ensures.exact
+pub returns-clause-exact : goal.returns-clause-exact
+returns-clause-exact c =
+    c.cost_entry.ensures ∙ ap (λ s. cost_entry (s + c.args.index)) c.cost_start_of.ensures ∙ (cost-is c.args.numbers c.args.index (omega arith) (omega arith) c.requires.index.1).0
+
+pub returns-clause-most : goal.returns-clause-most
+returns-clause-most c =
+    let e = c.cost_entry.ensures ∙ ap (λ s. cost_entry (s + c.args.index)) c.cost_start_of.ensures in
+    omega (arith, (cost-is c.args.numbers c.args.index (omega arith) (omega arith) c.requires.index.1).1)

@@ -3,7 +3,7 @@ use Rattle.std.specs.Prelude.{pos}
 use mir.Val.{SFits}
 use mir.Syntax.{w32}
 use Rattle.std.proofs.lemmas.Int.{to_z-of_z}
-use Rattle.pulse_vectors.proofs.RankSteps.{ranked-start, next-fits, ranked-next-at, ranked-below, ranked-end, ranked-only}
+use Rattle.pulse_vectors.proofs.RankSteps.{ranked-start, next-fits, ranked-next-at, ranked-below, ranked-end, ranked-value, ranked-only}
 use Rattle.pulse_vectors.proofs.TableSteps.{place-of}
 use Rattle.pulse_vectors.proofs.table.PulseTable.rank.Goals as goal
 
@@ -43,3 +43,6 @@ returns-clause-stands c = ranked-end _ _ _ _ (omega arith) c.loop-i.invariant
 
 pub returns-clause-only : goal.returns-clause-only
 returns-clause-only c = λ i g. ranked-only _ _ _ _ i (omega arith) c.loop-i.invariant g
+
+pub returns-clause-value : goal.returns-clause-value
+returns-clause-value c = ranked-value _ _ _ _ (omega arith) c.loop-i.invariant

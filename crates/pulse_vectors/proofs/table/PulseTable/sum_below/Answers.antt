@@ -1,6 +1,13 @@
-use Rattle.std.proofs.Common.{arith}
-use Rattle.pulse_vectors.proofs.Counts.{no-fewer}
+use Rattle.std.proofs.Common.{arith, ◌+◌, ap, ◌∙◌}
+use Rattle.pulse_vectors.specs.Tables.{sum_at}
+use Rattle.pulse_vectors.proofs.TableSteps.{place-inside, sum-before}
 use Rattle.pulse_vectors.proofs.table.PulseTable.sum_below.Goals as goal
 
-pub returns-then-pulses-eq0 : goal.returns-then-pulses-eq0
-returns-then-pulses-eq0 c = no-fewer _ _ (omega arith)
+pub overflow_add-start_of : goal.overflow_add-start_of
+overflow_add-start_of c = omega (arith, place-inside _ _ c.requires, c.start_of.ensures)
+
+pub sum_at-requires : goal.sum_at-requires
+sum_at-requires c = omega (arith, place-inside _ _ c.requires, c.start_of.ensures)
+
+pub returns : goal.returns
+returns c = c.sum_at.ensures ∙ ap (λ s. sum_at (s + c.args.pulses)) c.start_of.ensures ∙ sum-before _ _ c.requires
