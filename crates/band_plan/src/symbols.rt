@@ -44,6 +44,7 @@ impl Default for Node {
 }
 
 /// The answers of all bands of a frame.
+#[derive(Drop)]
 pub struct BandSymbols {
     /// How the bands are coded.
     pub settings: BandSettings,
