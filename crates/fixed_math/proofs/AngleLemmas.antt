@@ -486,3 +486,32 @@ mirror_sine a h l =
               let d : a ≡ 7680 = omega arith in
               ap sine e ∙ sine_end ∙ sym (ap neg_ℤ (ap sine d ∙ sine_end))
         ]
+
+-- ---- sizes
+
+negated_size : (z : ℤ) (n : ℕ) → unsigned_abs z ≤ n → unsigned_abs (neg_ℤ z) ≤ n
+negated_size z n h = omega (arith, ints)
+
+pub cosine_size : (a : ℕ) → a < 15360 → unsigned_abs (cosine a) ≤ 2 ^ 15
+cosine_size a h = elim (cases_lt 3840 a) [
+  | inr p ↦ subst (λ z. unsigned_abs z ≤ 2 ^ 15) (sym (cosine_first a p)) (quarter_size a p)
+  | inl p ↦ elim (cases_lt 7680 a) [
+    | inr q ↦ subst (λ z. unsigned_abs z ≤ 2 ^ 15) (sym (cosine_second a p q)) (negated_size (quarter_cosine (7680 - a)) (2 ^ 15) (quarter_size (7680 - a) (omega arith)))
+    | inl q ↦ elim (cases_lt a 11520) [
+      | inl r ↦ subst (λ z. unsigned_abs z ≤ 2 ^ 15) (sym (cosine_third a q r)) (negated_size (quarter_cosine (a - 7680)) (2 ^ 15) (quarter_size (a - 7680) (omega arith)))
+      | inr r ↦ subst (λ z. unsigned_abs z ≤ 2 ^ 15) (sym (cosine_fourth a r)) (quarter_size (15360 - a) (omega arith))
+    ]
+  ]
+]
+
+pub sine_size : (a : ℕ) → a < 15360 → unsigned_abs (sine a) ≤ 2 ^ 15
+sine_size a h = elim (cases_lt 3840 a) [
+  | inr p ↦ subst (λ z. unsigned_abs z ≤ 2 ^ 15) (sym (sine_first a p)) (quarter_size (3840 - a) (omega arith))
+  | inl p ↦ elim (cases_lt 7680 a) [
+    | inr q ↦ subst (λ z. unsigned_abs z ≤ 2 ^ 15) (sym (sine_second a p q)) (quarter_size (a - 3840) (omega arith))
+    | inl q ↦ elim (cases_lt a 11520) [
+      | inl r ↦ subst (λ z. unsigned_abs z ≤ 2 ^ 15) (sym (sine_third a q r)) (negated_size (quarter_cosine (11520 - a)) (2 ^ 15) (quarter_size (11520 - a) (omega arith)))
+      | inr r ↦ subst (λ z. unsigned_abs z ≤ 2 ^ 15) (sym (sine_fourth a r h)) (negated_size (quarter_cosine (a - 11520)) (2 ^ 15) (quarter_size (a - 11520) (omega arith)))
+    ]
+  ]
+]

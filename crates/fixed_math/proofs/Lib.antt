@@ -5,5 +5,6 @@ pub mod ItemLemmas
 pub mod PowerLemmas
 pub mod RootLemmas
 pub mod RoundingLemmas
+pub mod SearchLemmas
 pub mod TableLemmas
 pub mod UnitLemmas

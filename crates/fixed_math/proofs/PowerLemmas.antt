@@ -2,12 +2,14 @@
 use Rattle.std.proofs.Common.{◌≡◌, ℕ, zero, suc, ◌+◌, ◌-◌, ◌*◌, ◌/◌, ◌%◌, ◌^◌, ◌<◌, ◌≤◌, refl, sym, ap, subst, inl, inr, arith, ◌∙◌, Bool, true, false, [], ◌∷◌, get_or}
 use Rattle.std.specs.Prelude.{if◌then◌else◌, nat_le, nat_lt, nat_eq, min}
 use Rattle.std.proofs.lemmas.Nat.{mul-le, mul-lt, div_below, le-div, pow_pos, pow-add, shr-shr, div-mul-add, mod-mul-add, leading_top}
-use Rattle.std.proofs.lemmas.Bool.{cases_lt, cases_order, cases_Bool, ltb-true, eqb-true, leb-true, leb-false, le-leb, cond-true, cond-false}
+use Rattle.std.proofs.lemmas.Bool.{cases_lt, cases_order, ltb-true, eqb-true, leb-true, leb-false, le-leb}
 use Rattle.std.proofs.Math.Nat.{mul_assoc, mul-div_cancel_left, pow-suc, mod-eq_of_lt, div-mul-le_self, pow-le-pow_right}
 use Rattle.std.specs.Int.Count.{count_leading_zeros}
 use Rattle.fixed_math.specs.Root.{root, root_by}
-use Rattle.fixed_math.specs.Powers.{part, multiplied, power_by, fraction, mantissa, octaves, ex, power, greatest, logarithm, IsLogarithm}
+use Rattle.fixed_math.specs.Powers.{part, multiplied, power_by, fraction, mantissa, octaves, ex, power, logarithm, IsLogarithm}
+use Rattle.fixed_math.specs.Search.{greatest}
 use Rattle.fixed_math.specs.Octave.{IsPlace}
+use Rattle.fixed_math.proofs.SearchLemmas.{greatest-found, greatest-above}
 use Rattle.fixed_math.proofs.TableLemmas.{all_from, all_from-at, climbs, rises_over}
 
 -- ---- the parts
@@ -319,51 +321,6 @@ pub ex-most : (d : ℕ) → ex d ≤ 2 ^ 30
 ex-most d = omega (arith, ex-start, ex-falls 0 d (omega arith))
 
 -- ---- the logarithm
-
-greatest_here : (t : ℕ → Bool) (n : ℕ) → t n ≡ true → greatest t (suc n) ≡ n
-unfolding greatest
-greatest_here t n h = cond-true (t n) n (greatest t n) h
-
-greatest_below : (t : ℕ → Bool) (n : ℕ) → t n ≡ false → greatest t (suc n) ≡ greatest t n
-unfolding greatest
-greatest_below t n h = cond-false (t n) n (greatest t n) h
-
-pub greatest-found : (t : ℕ → Bool) (n k : ℕ) → k < n → t k ≡ true → t (greatest t n) ≡ true
-greatest-found t zero k h p = absurd (omega arith)
-greatest-found t (suc n) k h p =
-    elim (cases_Bool (t n)) [
-      | inl e ↦ ap t (greatest_here t n e) ∙ e
-      | inr e ↦ ap t (greatest_below t n e) ∙ greatest-found t n k (not_last k n e h p) p
-    ]
-  where
-    not_last : (k n : ℕ) → t n ≡ false → k < suc n → t k ≡ true → k < n
-    not_last k n e h p =
-        elim (cases_lt k n) [
-          | inl q ↦ q
-          | inr q ↦
-              let d : k ≡ n = omega arith in
-              absurd (cc (ap t d))
-        ]
-
-same_test : (t : ℕ → Bool) (k n : ℕ) → n ≤ k → k < suc n → t n ≡ false → t k ≡ false
-same_test t k n q h e =
-    let d : k ≡ n = omega arith in
-    ap t d ∙ e
-
-pub greatest-above : (t : ℕ → Bool) (n k : ℕ) → greatest t n < k → k < n → t k ≡ false
-greatest-above t zero k g h = absurd (omega arith)
-greatest-above t (suc n) k g h =
-    elim (cases_Bool (t n)) [
-      | inl e ↦
-          let d : greatest t (suc n) ≡ n = greatest_here t n e in
-          absurd (omega arith)
-      | inr e ↦
-          let d : greatest t (suc n) ≡ greatest t n = greatest_below t n e in
-          elim (cases_lt k n) [
-            | inl q ↦ greatest-above t n k (omega arith) q
-            | inr q ↦ same_test t k n q h e
-          ]
-    ]
 
 pub logarithm-is : (v : ℕ) → 1 ≤ v → v < 2 ^ 60 → IsLogarithm v (logarithm v)
 unfolding logarithm

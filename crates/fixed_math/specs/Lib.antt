@@ -6,4 +6,5 @@ pub mod Powers
 pub mod Quarter
 pub mod Root
 pub mod Rounding
+pub mod Search
 pub mod Unit

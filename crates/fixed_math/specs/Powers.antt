@@ -1,6 +1,7 @@
 -- Powers of two by steps of 2^(1/1024), and logarithms.
-use Rattle.std.specs.Prelude.{ℕ, zero, suc, ◌+◌, ◌-◌, ◌*◌, ◌/◌, ◌%◌, ◌^◌, ◌<◌, ◌≤◌, nat_le, nat_lt, Bool, if◌then◌else◌}
+use Rattle.std.specs.Prelude.{ℕ, zero, suc, ◌+◌, ◌-◌, ◌*◌, ◌/◌, ◌%◌, ◌^◌, ◌<◌, ◌≤◌, nat_le, nat_lt, if◌then◌else◌}
 use Rattle.fixed_math.specs.Root.{root}
+use Rattle.fixed_math.specs.Search.{greatest}
 
 -- 2 to the power 1 / 2^k, in units of 2^-60: each is the root of the one before
 unfoldable pub part : ℕ → ℕ
@@ -42,11 +43,6 @@ ex d = if nat_lt 31 (octaves d) then 0 else mantissa (octaves d * 1024 - d) / 2 
 pub record IsLogarithm (v e : ℕ) : Type 0 where
   pub within : power e ≤ v
   pub above : (k : ℕ) → e < k → v < power k
-
--- the greatest number below n that passes a test; 0 where none does
-unfoldable pub greatest : (ℕ → Bool) → ℕ → ℕ
-greatest test zero = 0
-greatest test (suc n) = if test n then n else greatest test n
 
 -- the logarithm of a number from 1 to below 2^60, in units of 1/1024
 unfoldable pub logarithm : ℕ → ℕ

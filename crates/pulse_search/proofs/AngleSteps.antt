@@ -7,10 +7,10 @@ use Rattle.std.proofs.lemmas.Int.{ints, fits_signed_from_abs, fits_signed_mul, t
 use Rattle.std.proofs.lemmas.Nat.{mul-le}
 use Rattle.std.proofs.lemmas.Bool.{cases_lt, cases_Bool, and_parts, leb-true, le-leb, cond-true, cond-false, ne_eqb}
 use Rattle.fixed_math.specs.declared.circle.Point.{Point}
-use Rattle.fixed_math.specs.Powers.{greatest}
+use Rattle.fixed_math.specs.Search.{greatest}
 use Rattle.fixed_math.specs.Circle.{start, point_by, narrowed, quarter_cosine, cosine, sine}
 use Rattle.fixed_math.proofs.AngleLemmas.{at, next, quarter_cosine-at, quarter_low, cosine_first, sine_first, sine-zero}
-use Rattle.fixed_math.proofs.PowerLemmas.{greatest-found, greatest-above}
+use Rattle.fixed_math.proofs.SearchLemmas.{greatest-found, greatest-above}
 use Rattle.pulse_search.specs.Angles.{is_under, angle_of, IsAngle}
 
 -- ---- the quarter's cosines never rise

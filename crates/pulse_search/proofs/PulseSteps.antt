@@ -1,11 +1,12 @@
 -- Sums after one more pulse and their bounds, the first best of a row of fractions, and lists that are
 -- written from the front.
-use Rattle.std.proofs.Common.{◌≡◌, ℕ, zero, suc, ◌+◌, ◌-◌, ◌*◌, ◌^◌, ◌<◌, ◌≤◌, refl, sym, ap, subst, inl, inr, arith, ◌∙◌, Bool, true, false, List, [], ◌∷◌, length, get_or}
+use Rattle.std.proofs.Common.{◌≡◌, ℕ, zero, suc, ◌+◌, ◌-◌, ◌*◌, ◌^◌, ◌<◌, ◌≤◌, refl, sym, ap, subst, inl, inr, arith, ◌∙◌, true, false, List, [], ◌∷◌, length, get_or}
 use Rattle.std.specs.Prelude.{◌⊎◌, not, All, slice_index, replicate}
 use Rattle.std.proofs.lemmas.Nat.{mul-le}
 use Rattle.std.proofs.lemmas.List.{length-set, length-replicate, get_or_default}
-use Rattle.std.proofs.lemmas.Bool.{cases_lt, cases_Bool, or_left, or_right, or_from, ltb-true, ltb-false, lt-ltb, le-ltb, cond-true, cond-false}
-use Rattle.pulse_search.specs.Pulses.{dot, squared, match_with, energy_with, is_better, is_beaten, least, best_place, IsBest, IsNext, one_more, pulses_by}
+use Rattle.std.proofs.lemmas.Bool.{cases_lt, cases_Bool, or_left, or_right, or_from, ltb-true, ltb-false, lt-ltb, le-ltb}
+use Rattle.fixed_math.proofs.SearchLemmas.{least-found}
+use Rattle.pulse_search.specs.Pulses.{dot, squared, match_with, energy_with, is_better, is_beaten, best_place, IsBest, IsNext, one_more, pulses_by}
 
 -- ---- sums
 
@@ -162,12 +163,6 @@ beaten-by xs ys (suc n) i j p t =
       | inl e ↦ or_left (is_better xs ys n i) (is_beaten xs ys n i) (subst (λ k. is_better xs ys k i ≡ true) e t)
       | inr q ↦ or_right (is_better xs ys n i) (is_beaten xs ys n i) (beaten-by xs ys n i j q t)
     ]
-
-least-found : (t : ℕ → Bool) (n j : ℕ) → j < n → t j ≡ true → ((i : ℕ) → i < j → t i ≡ false) → least t n ≡ j
-unfolding least
-least-found t zero j p h b = absurd (omega arith)
-least-found t (suc n) zero p h b = cond-true (t 0) 0 (suc (least (λ i. t (suc i)) n)) h
-least-found t (suc n) (suc j) p h b = cond-false (t 0) 0 (suc (least (λ i. t (suc i)) n)) (b 0 (omega arith)) ∙ ap (λ k. suc k) (least-found (λ i. t (suc i)) n j (omega arith) h (λ i q. b (suc i) (omega arith)))
 
 pub best-found : (xs ys : List ℕ) (j : ℕ) → IsBest xs ys (length xs) j → j ≡ best_place xs ys
 unfolding best_place

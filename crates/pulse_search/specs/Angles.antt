@@ -1,7 +1,7 @@
 -- The angle between the two halves of a split, or between middle and side (RFC 6716, 4.3.4.4), from their
 -- lengths m and s. Angles are those of the circle of 15360; a quarter is 3840.
 use Rattle.std.specs.Prelude.{ℕ, ◌+◌, ◌<◌, ◌≤◌, nat_eq, Bool, if◌then◌else◌, pos, ◌*ℤ◌, ◌≤ℤ◌, ◌<ℤ◌, int_le}
-use Rattle.fixed_math.specs.Powers.{greatest}
+use Rattle.fixed_math.specs.Search.{greatest}
 use Rattle.fixed_math.specs.Circle.{cosine, sine}
 
 -- the tangent of a is at most s / m

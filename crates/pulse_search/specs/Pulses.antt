@@ -1,7 +1,8 @@
 -- The encoder's search for the vector of whole numbers that is near in direction to a band's part (RFC 6716,
 -- 5.3.8.1). Pulses are added one at a time, each where the vector's correlation with the part, squared, over
 -- the vector's energy then becomes greatest.
-use Rattle.std.specs.Prelude.{◌≡◌, ℕ, zero, suc, ◌+◌, ◌*◌, ◌<◌, ◌≤◌, nat_lt, Bool, true, false, not, ◌||◌, if◌then◌else◌, ℤ, pos, negsuc, neg_ℤ, ◌≤ℤ◌, ◌<ℤ◌, unsigned_abs, List, [], ◌∷◌, length, map, slice_index, slice_set, replicate}
+use Rattle.std.specs.Prelude.{◌≡◌, ℕ, zero, suc, ◌+◌, ◌*◌, ◌<◌, ◌≤◌, nat_lt, Bool, true, false, not, ◌||◌, ℤ, pos, negsuc, neg_ℤ, ◌≤ℤ◌, ◌<ℤ◌, unsigned_abs, List, [], ◌∷◌, length, map, slice_index, slice_set, replicate}
+use Rattle.fixed_math.specs.Search.{least}
 
 -- the sum of the products of two lists, place by place
 unfoldable pub dot : List ℕ → List ℕ → ℕ
@@ -27,11 +28,6 @@ is_better xs ys i j = nat_lt (match_with xs ys j * energy_with ys i) (match_with
 unfoldable pub is_beaten : List ℕ → List ℕ → ℕ → ℕ → Bool
 is_beaten xs ys zero j = false
 is_beaten xs ys (suc n) j = is_better xs ys n j || is_beaten xs ys n j
-
--- the least number below n that passes a test; n where none does
-unfoldable pub least : (ℕ → Bool) → ℕ → ℕ
-least test zero = 0
-least test (suc n) = if test 0 then 0 else suc (least (λ i. test (suc i)) n)
 
 -- the first place that none is better than
 unfoldable pub best_place : List ℕ → List ℕ → ℕ

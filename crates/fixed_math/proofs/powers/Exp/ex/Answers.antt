@@ -1,8 +1,8 @@
-use Rattle.std.proofs.Common.{◌≡◌, ℕ, ◌/◌, ◌*◌, ◌-◌, ◌^◌, ap, ◌∙◌, arith}
+use Rattle.std.proofs.Common.{◌/◌, ◌*◌, ◌-◌, ◌^◌, ap, ◌∙◌, arith}
 use Rattle.std.specs.Prelude.{unsigned_abs}
 use Rattle.std.specs.Int.{w32}
 use Rattle.std.proofs.lemmas.Int.{to_z-of_z}
-use Rattle.fixed_math.specs.Powers.{mantissa, octaves, ex}
+use Rattle.fixed_math.specs.Powers.{mantissa}
 use Rattle.fixed_math.proofs.PowerLemmas.{ex_at, ex_nothing, ex-most, octaves-is}
 use Rattle.fixed_math.proofs.powers.Exp.ex.Goals as goal
 
