@@ -9,3 +9,4 @@ pub mod ComputedReadings
 pub mod ReadingSteps
 pub mod WritingSteps
 pub mod CountSteps
+pub mod BatchSteps

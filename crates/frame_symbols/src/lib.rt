@@ -12,7 +12,11 @@ mod laws;
 mod opening;
 mod reading;
 mod recorder;
+#[cfg(test)]
+mod rows;
 mod symbols;
+#[cfg(test)]
+mod tests;
 mod writing;
 
 pub use batch::{FrameSlot, read_batch};
