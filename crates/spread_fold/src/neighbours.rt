@@ -5,42 +5,42 @@ ghost use Rattle.spread_fold.specs.Spreading.{turned_up, turned_down};
 
 use crate::spreading::turned_number;
 
-/// Turns the pairs of neighbours that begin at the `k` places from `base` on, upwards.
-pub fn neighbours_up(x: &mut [i64], base: usize, k: usize, c: i64, s: i64)
+/// Turns the pairs of neighbours that begin at the first `k` places, upwards.
+pub fn neighbours_up(x: &mut [i64], k: usize, c: i64, s: i64)
     requires count { length x.old ≤ 176 }
-    requires within { 1 ≤ k → base + k + 1 ≤ length x.old }
+    requires within { 1 ≤ k → k + 1 ≤ length x.old }
     requires cosine { unsigned_abs c ≤ 2 ^ 15 }
     requires sine { unsigned_abs s ≤ 2 ^ 15 }
     requires items { All (λ v. unsigned_abs v < 2 ^ 20) x.old }
-    ensures { x.new ≡ turned_up 1 c s base k x.old }
+    ensures { x.new ≡ turned_up 1 c s k x.old }
 {
     if k > 0 {
-        let mut carried = x[base];
+        let mut carried = x[0];
         for i in 0..k {
-            let next = x[base + i + 1];
-            x[base + i] = turned_number(carried, c, next, -s);
+            let next = x[i + 1];
+            x[i] = turned_number(carried, c, next, -s);
             carried = turned_number(next, c, carried, s);
         }
-        x[base + k] = carried;
+        x[k] = carried;
     }
 }
 
 /// The same downwards.
-pub fn neighbours_down(x: &mut [i64], base: usize, k: usize, c: i64, s: i64)
+pub fn neighbours_down(x: &mut [i64], k: usize, c: i64, s: i64)
     requires count { length x.old ≤ 176 }
-    requires within { 1 ≤ k → base + k + 1 ≤ length x.old }
+    requires within { 1 ≤ k → k + 1 ≤ length x.old }
     requires cosine { unsigned_abs c ≤ 2 ^ 15 }
     requires sine { unsigned_abs s ≤ 2 ^ 15 }
     requires items { All (λ v. unsigned_abs v < 2 ^ 20) x.old }
-    ensures { x.new ≡ turned_down 1 c s base k x.old }
+    ensures { x.new ≡ turned_down 1 c s k x.old }
 {
     if k > 0 {
-        let mut carried = x[base + k];
+        let mut carried = x[k];
         for i in (0..k).rev() {
-            let first = x[base + i];
-            x[base + i + 1] = turned_number(carried, c, first, s);
+            let first = x[i];
+            x[i + 1] = turned_number(carried, c, first, s);
             carried = turned_number(first, c, carried, -s);
         }
-        x[base] = carried;
+        x[0] = carried;
     }
 }

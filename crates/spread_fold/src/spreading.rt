@@ -97,79 +97,92 @@ fn turn_runs(x: &mut [i64], t: usize, c: i64, s: i64, blocks: usize, forward: bo
     requires cosine { unsigned_abs c ≤ 2 ^ 15 }
     requires sine { unsigned_abs s ≤ 2 ^ 15 }
     requires blocks { 1 ≤ blocks }
+    requires runs { length x.old % blocks ≡ 0 }
     requires items { All (λ v. unsigned_abs v < 2 ^ 20) x.old }
     ensures { x.new ≡ spread_runs forward t c s (length x.old / blocks) blocks x.old }
 {
     let n = x.len() / blocks;
     for b in 0..blocks {
-        if forward {
-            turn_all(x, b * n, n, 1, c, -s);
-            turn_all(x, b * n, n, t, s, -c);
-        } else {
-            turn_all(x, b * n, n, t, s, c);
-            turn_all(x, b * n, n, 1, c, s);
-        }
+        turn_run(&mut x[b * n..(b + 1) * n], t, c, s, forward);
     }
 }
 
-// Turns all pairs with distance `t` of the `n` items from `base` on, upwards and then downwards; none for 0.
-fn turn_all(x: &mut [i64], base: usize, n: usize, t: usize, c: i64, s: i64)
+// The turns of one run.
+fn turn_run(x: &mut [i64], t: usize, c: i64, s: i64, forward: bool)
     requires count { length x.old ≤ 176 }
-    requires within { base + n ≤ length x.old }
     requires distance { t ≤ 177 }
     requires cosine { unsigned_abs c ≤ 2 ^ 15 }
     requires sine { unsigned_abs s ≤ 2 ^ 15 }
     requires items { All (λ v. unsigned_abs v < 2 ^ 20) x.old }
-    ensures { x.new ≡ turned_far t c s base n x.old }
+    ensures { x.new ≡ spread_run forward t c s x.old }
+{
+    if forward {
+        turn_near(x, c, -s);
+        turn_far(x, t, s, -c);
+    } else {
+        turn_far(x, t, s, c);
+        turn_near(x, c, s);
+    }
+}
+
+// Turns all pairs with distance `t`, upwards and then downwards; none for 0.
+fn turn_far(x: &mut [i64], t: usize, c: i64, s: i64)
+    requires count { length x.old ≤ 176 }
+    requires distance { t ≤ 177 }
+    requires cosine { unsigned_abs c ≤ 2 ^ 15 }
+    requires sine { unsigned_abs s ≤ 2 ^ 15 }
+    requires items { All (λ v. unsigned_abs v < 2 ^ 20) x.old }
+    ensures { x.new ≡ turned_far t c s x.old }
 {
     if t == 1 {
-        turn_neighbours(x, base, n, c, s);
+        turn_near(x, c, s);
     } else if t > 0 {
-        turn_up(x, base, n.saturating_sub(t), t, c, s);
-        turn_down(x, base, n.saturating_sub(2 * t), t, c, s);
+        let n = x.len();
+        turn_up(x, n.saturating_sub(t), t, c, s);
+        turn_down(x, n.saturating_sub(2 * t), t, c, s);
     }
 }
 
 // The same with distance 1.
-fn turn_neighbours(x: &mut [i64], base: usize, n: usize, c: i64, s: i64)
+fn turn_near(x: &mut [i64], c: i64, s: i64)
     requires count { length x.old ≤ 176 }
-    requires within { base + n ≤ length x.old }
     requires cosine { unsigned_abs c ≤ 2 ^ 15 }
     requires sine { unsigned_abs s ≤ 2 ^ 15 }
     requires items { All (λ v. unsigned_abs v < 2 ^ 20) x.old }
-    ensures { x.new ≡ turned 1 c s base n x.old }
+    ensures { x.new ≡ turned 1 c s x.old }
 {
-    neighbours_up(x, base, n.saturating_sub(1), c, s);
-    neighbours_down(x, base, n.saturating_sub(2), c, s);
+    let n = x.len();
+    neighbours_up(x, n.saturating_sub(1), c, s);
+    neighbours_down(x, n.saturating_sub(2), c, s);
 }
 
-// Turns the pairs that begin at the `k` places from `base` on, upwards.
-fn turn_up(x: &mut [i64], base: usize, k: usize, t: usize, c: i64, s: i64)
+// Turns the pairs that begin at the first `k` places, upwards.
+fn turn_up(x: &mut [i64], k: usize, t: usize, c: i64, s: i64)
     requires count { length x.old ≤ 176 }
     requires distance { (1 ≤ t) × (t ≤ 177) }
-    requires within { 1 ≤ k → base + k + t ≤ length x.old }
+    requires within { 1 ≤ k → k + t ≤ length x.old }
     requires cosine { unsigned_abs c ≤ 2 ^ 15 }
     requires sine { unsigned_abs s ≤ 2 ^ 15 }
     requires items { All (λ v. unsigned_abs v < 2 ^ 20) x.old }
-    ensures { x.new ≡ turned_up t c s base k x.old }
+    ensures { x.new ≡ turned_up t c s k x.old }
 {
     for i in 0..k {
-        turn_pair(x, base + i, t, c, s);
+        turn_pair(x, i, t, c, s);
     }
 }
 
 // The same downwards.
-fn turn_down(x: &mut [i64], base: usize, k: usize, t: usize, c: i64, s: i64)
+fn turn_down(x: &mut [i64], k: usize, t: usize, c: i64, s: i64)
     requires count { length x.old ≤ 176 }
     requires distance { (1 ≤ t) × (t ≤ 177) }
-    requires within { 1 ≤ k → base + k + t ≤ length x.old }
+    requires within { 1 ≤ k → k + t ≤ length x.old }
     requires cosine { unsigned_abs c ≤ 2 ^ 15 }
     requires sine { unsigned_abs s ≤ 2 ^ 15 }
     requires items { All (λ v. unsigned_abs v < 2 ^ 20) x.old }
-    ensures { x.new ≡ turned_down t c s base k x.old }
+    ensures { x.new ≡ turned_down t c s k x.old }
 {
     for i in (0..k).rev() {
-        turn_pair(x, base + i, t, c, s);
+        turn_pair(x, i, t, c, s);
     }
 }
 

@@ -11,12 +11,12 @@ loop-i-preserved c =
     let fs = c.ranges.s in
     let i : ℕ = c.loop-i.i - 1 in
     let w : i + 1 ≡ c.loop-i.i = omega arith in
-    let e : c.turn_pair.new.x ≡ pair_turned c.args.t c.args.c c.args.s (c.args.base + i) c.loop-i.x = simp to_z-of_z at c.turn_pair.ensures in
-    let f : turned_down c.args.t c.args.c c.args.s c.args.base c.loop-i.i c.loop-i.x ≡ turned_down c.args.t c.args.c c.args.s c.args.base c.args.k c.args.x.now = simp to_z-of_z at c.loop-i.invariant.left in
-    let g : turned_down c.args.t c.args.c c.args.s c.args.base (i + 1) c.loop-i.x ≡ turned_down c.args.t c.args.c c.args.s c.args.base c.args.k c.args.x.now = ap (λ k. turned_down c.args.t c.args.c c.args.s c.args.base k c.loop-i.x) w ∙ f in
-    let small : All (λ v. unsigned_abs v < 2 ^ 20) c.turn_pair.new.x = subst (All (λ v. unsigned_abs v < 2 ^ 20)) (sym e) (keeps_pair (λ v. unsigned_abs v < 2 ^ 20) small_below c.args.t c.args.c c.args.s (c.args.base + i) c.loop-i.x c.loop-i.invariant.small) in
+    let e : c.turn_pair.new.x ≡ pair_turned c.args.t c.args.c c.args.s i c.loop-i.x = simp to_z-of_z at c.turn_pair.ensures in
+    let f : turned_down c.args.t c.args.c c.args.s c.loop-i.i c.loop-i.x ≡ turned_down c.args.t c.args.c c.args.s c.args.k c.args.x.now = simp to_z-of_z at c.loop-i.invariant.left in
+    let g : turned_down c.args.t c.args.c c.args.s (i + 1) c.loop-i.x ≡ turned_down c.args.t c.args.c c.args.s c.args.k c.args.x.now = ap (λ k. turned_down c.args.t c.args.c c.args.s k c.loop-i.x) w ∙ f in
+    let small : All (λ v. unsigned_abs v < 2 ^ 20) c.turn_pair.new.x = subst (All (λ v. unsigned_abs v < 2 ^ 20)) (sym e) (keeps_pair (λ v. unsigned_abs v < 2 ^ 20) small_below c.args.t c.args.c c.args.s i c.loop-i.x c.loop-i.invariant.small) in
     record {
-      left = simp to_z-of_z (down_more c.args.t c.args.c c.args.s c.args.base i (turned_down c.args.t c.args.c c.args.s c.args.base c.args.k c.args.x.now) c.loop-i.x c.turn_pair.new.x g e);
+      left = simp to_z-of_z (down_more c.args.t c.args.c c.args.s i (turned_down c.args.t c.args.c c.args.s c.args.k c.args.x.now) c.loop-i.x c.turn_pair.new.x g e);
       small = small;
     }
 
@@ -25,4 +25,4 @@ returns c =
     let fc = c.ranges.c in
     let fs = c.ranges.s in
     let f = simp to_z-of_z at c.loop-i.invariant.left in
-    down_end c.args.t c.args.c c.args.s c.args.base c.loop-i.i c.loop-i.x (turned_down c.args.t c.args.c c.args.s c.args.base c.args.k c.args.x.now) (omega arith) f
+    down_end c.args.t c.args.c c.args.s c.loop-i.i c.loop-i.x (turned_down c.args.t c.args.c c.args.s c.args.k c.args.x.now) (omega arith) f

@@ -6,6 +6,6 @@ use Rattle.spread_fold.proofs.spreading.turn_down.Given as goal
 -- the first i pairs are left
 abbrev pub invariant-loop-i : goal.invariant-loop-i
 invariant-loop-i l = record {
-  left : turned_down l.t l.c l.s l.base l.i l.x ≡ turned_down l.t l.c l.s l.base l.k l.fn.x;
+  left : turned_down l.t l.c l.s l.i l.x ≡ turned_down l.t l.c l.s l.k l.fn.x;
   small : All (λ v. unsigned_abs v < 2 ^ 20) l.x;
 }

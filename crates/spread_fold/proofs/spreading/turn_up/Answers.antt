@@ -14,14 +14,14 @@ loop-i-preserved c =
     let fc = c.ranges.c in
     let fs = c.ranges.s in
     let e = simp to_z-of_z at c.turn_pair.ensures in
-    simp to_z-of_z (up_more c.args.t c.args.c c.args.s c.args.base c.loop-i.i c.args.x.now c.loop-i.x c.turn_pair.new.x (simp to_z-of_z at c.loop-i.invariant) e)
+    simp to_z-of_z (up_more c.args.t c.args.c c.args.s c.loop-i.i c.args.x.now c.loop-i.x c.turn_pair.new.x (simp to_z-of_z at c.loop-i.invariant) e)
 
 pub turn_pair-requires-clause-items : goal.turn_pair-requires-clause-items
 turn_pair-requires-clause-items c =
     let fc = c.ranges.c in
     let fs = c.ranges.s in
     let e = simp to_z-of_z at c.loop-i.invariant in
-    subst (All (λ v. unsigned_abs v < 2 ^ 20)) (sym e) (keeps_up (λ v. unsigned_abs v < 2 ^ 20) small_below c.args.t c.args.c c.args.s c.args.base c.loop-i.i c.args.x.now c.requires.items)
+    subst (All (λ v. unsigned_abs v < 2 ^ 20)) (sym e) (keeps_up (λ v. unsigned_abs v < 2 ^ 20) small_below c.args.t c.args.c c.args.s c.loop-i.i c.args.x.now c.requires.items)
 
 pub returns : goal.returns
 returns c =
@@ -29,4 +29,4 @@ returns c =
     let fs = c.ranges.s in
     let e : c.loop-i.i ≡ c.args.k = omega arith in
     let f = simp to_z-of_z at c.loop-i.invariant in
-    f ∙ (ap (λ k. turned_up c.args.t c.args.c c.args.s c.args.base k c.args.x.now) e)
+    f ∙ (ap (λ k. turned_up c.args.t c.args.c c.args.s k c.args.x.now) e)
