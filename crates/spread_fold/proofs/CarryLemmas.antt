@@ -22,7 +22,7 @@ first_carried c s p xs v a b h e f =
     ap (λ zs. slice_set zs (p + 1) b) (sym (set-set xs p v a)) ∙ ap (λ z. slice_set (slice_set ys p z) (p + 1) b) d ∙ ap (λ z. slice_set (slice_set ys p (turned_first c s (item ys p) (item ys (p + 1)))) (p + 1) z) g
 
 -- the pair at p, whose second item is carried
-second_carried : (c s : ℤ) (p : ℕ) (xs : List ℤ) (v a b : ℤ) → p + 1 < length xs → a ≡ turned_first c s (item xs p) v → b ≡ turned_second c s (item xs p) v
+pub second_carried : (c s : ℤ) (p : ℕ) (xs : List ℤ) (v a b : ℤ) → p + 1 < length xs → a ≡ turned_first c s (item xs p) v → b ≡ turned_second c s (item xs p) v
     → slice_set (slice_set xs (p + 1) b) p a ≡ pair_turned 1 c s p (slice_set xs (p + 1) v)
 unfolding pair_turned
 second_carried c s p xs v a b h e f =

@@ -1,4 +1,4 @@
-use Rattle.std.proofs.Common.{◌≡◌, ℕ, ◌+◌, ◌^◌, ◌<◌, ◌∙◌, arith, length, List}
+use Rattle.std.proofs.Common.{◌≡◌, ℕ, ◌+◌, ◌^◌, ◌<◌, ◌∙◌, arith, subst, sym, length, List}
 use Rattle.std.specs.Prelude.{ℤ, pos, ◌+ℤ◌, ◌-ℤ◌, ◌*ℤ◌, unsigned_abs, slice_set, FitsSigned}
 use Rattle.std.specs.Int.{w64, cast_signed as to_z}
 use Rattle.std.proofs.lemmas.Int.{ints, to_z-of_z, fits_signed_from_abs}
@@ -6,8 +6,10 @@ use Rattle.std.proofs.lemmas.List.Elements.{All-set}
 use Rattle.fixed_math.specs.Items.{item}
 use Rattle.fixed_math.specs.Rounding.{rounded}
 use Rattle.fixed_math.proofs.ItemLemmas.{item_below}
+use Rattle.spread_fold.specs.Calm.{IsCalm}
 use Rattle.spread_fold.specs.Spreading.{clamped, turned_second, turned_up}
 use Rattle.spread_fold.proofs.CarryLemmas.{first_is, up_start, up_carried, none_up}
+use Rattle.spread_fold.proofs.CalmLemmas.{calm_up, calm_fewer, up_needs}
 use Rattle.spread_fold.proofs.neighbours.neighbours_up.Goals as goal
 
 pub loop-i-init : goal.loop-i-init
@@ -43,6 +45,44 @@ turned_number-carried-requires-clause-first c =
 
 pub turned_number-carried-requires-clause-second : goal.turned_number-carried-requires-clause-second
 turned_number-carried-requires-clause-second c = c.loop-i.invariant.carried
+
+pub turned_number-requires-clause-calm : goal.turned_number-requires-clause-calm
+turned_number-requires-clause-calm c = λ q.
+    let fc = c.ranges.c in
+    let fs = c.ranges.s in
+    let old : List ℤ = c.args.x.now in
+    let xs : List ℤ = c.loop-i.x in
+    let i : ℕ = c.loop-i.i in
+    let v : ℤ = to_z w64 c.loop-i.carried-bits in
+    let y : ℤ = item xs (i + 1) in
+    let small : unsigned_abs y < 2 ^ 20 = item_below xs (2 ^ 20) (i + 1) (omega arith) c.loop-i.invariant.small in
+    let fy : FitsSigned w64 y = fits_signed_from_abs w64 y (omega arith) in
+    let fn : FitsSigned w64 (pos 0 -ℤ c.args.s) = fits_signed_from_abs w64 (pos 0 -ℤ c.args.s) (omega (arith, ints)) in
+    let r : slice_set xs i v ≡ turned_up 1 c.args.c c.args.s i old = simp to_z-of_z at c.loop-i.invariant.turned in
+    let room = c.requires.within in
+    let h : IsCalm 1 c.args.c c.args.s (turned_up 1 c.args.c c.args.s i old) =
+    calm_up 1 c.args.c c.args.s i 1 old (omega arith) (λ e. omega (arith, room (omega (arith, c.if-k-gt0.true)), c.loop-i-test.true)) (calm_fewer c.args.k (i + 1) c.args.c c.args.s old (omega (arith, c.loop-i-test.true)) (c.requires.calm q)) in
+    let inside : i + 1 < length xs = omega (arith, room (omega (arith, c.if-k-gt0.true)), c.loop-i.auto.x, c.loop-i-test.true) in
+    simp to_z-of_z (up_needs c.args.c c.args.s i 0 xs v inside (subst (IsCalm 1 c.args.c c.args.s) (sym r) h)).first
+
+pub turned_number-carried-requires-clause-calm : goal.turned_number-carried-requires-clause-calm
+turned_number-carried-requires-clause-calm c = λ q.
+    let fc = c.ranges.c in
+    let fs = c.ranges.s in
+    let old : List ℤ = c.args.x.now in
+    let xs : List ℤ = c.loop-i.x in
+    let i : ℕ = c.loop-i.i in
+    let v : ℤ = to_z w64 c.loop-i.carried-bits in
+    let y : ℤ = item xs (i + 1) in
+    let small : unsigned_abs y < 2 ^ 20 = item_below xs (2 ^ 20) (i + 1) (omega arith) c.loop-i.invariant.small in
+    let fy : FitsSigned w64 y = fits_signed_from_abs w64 y (omega arith) in
+    let fn : FitsSigned w64 (pos 0 -ℤ c.args.s) = fits_signed_from_abs w64 (pos 0 -ℤ c.args.s) (omega (arith, ints)) in
+    let r : slice_set xs i v ≡ turned_up 1 c.args.c c.args.s i old = simp to_z-of_z at c.loop-i.invariant.turned in
+    let room = c.requires.within in
+    let h : IsCalm 1 c.args.c c.args.s (turned_up 1 c.args.c c.args.s i old) =
+    calm_up 1 c.args.c c.args.s i 1 old (omega arith) (λ e. omega (arith, room (omega (arith, c.if-k-gt0.true)), c.loop-i-test.true)) (calm_fewer c.args.k (i + 1) c.args.c c.args.s old (omega (arith, c.loop-i-test.true)) (c.requires.calm q)) in
+    let inside : i + 1 < length xs = omega (arith, room (omega (arith, c.if-k-gt0.true)), c.loop-i.auto.x, c.loop-i-test.true) in
+    simp to_z-of_z (up_needs c.args.c c.args.s i 0 xs v inside (subst (IsCalm 1 c.args.c c.args.s) (sym r) h)).second
 
 pub loop-i-preserved : goal.loop-i-preserved
 loop-i-preserved c =
