@@ -22,7 +22,7 @@ first_carried c s p xs v a b h e f =
     ap (λ zs. slice_set zs (p + 1) b) (sym (set-set xs p v a)) ∙ ap (λ z. slice_set (slice_set ys p z) (p + 1) b) d ∙ ap (λ z. slice_set (slice_set ys p (turned_first c s (item ys p) (item ys (p + 1)))) (p + 1) z) g
 
 -- the pair at p, whose second item is carried
-second_carried : (c s : ℤ) (p : ℕ) (xs : List ℤ) (v a b : ℤ) → p + 1 < length xs → a ≡ turned_first c s (item xs p) v → b ≡ turned_second c s (item xs p) v
+pub second_carried : (c s : ℤ) (p : ℕ) (xs : List ℤ) (v a b : ℤ) → p + 1 < length xs → a ≡ turned_first c s (item xs p) v → b ≡ turned_second c s (item xs p) v
     → slice_set (slice_set xs (p + 1) b) p a ≡ pair_turned 1 c s p (slice_set xs (p + 1) v)
 unfolding pair_turned
 second_carried c s p xs v a b h e f =
@@ -38,27 +38,25 @@ second_carried c s p xs v a b h e f =
     put ∙ ap (λ z. slice_set (slice_set ys p z) (p + 1) b) d ∙ ap (λ z. slice_set (slice_set ys p (turned_first c s (item ys p) (item ys (p + 1)))) (p + 1) z) g
 
 -- one pair more upwards
-pub up_carried : (c s : ℤ) (base i : ℕ) (old xs : List ℤ) (v a b : ℤ) → base + i + 1 < length xs → slice_set xs (base + i) v ≡ turned_up 1 c s base i old
-    → a ≡ turned_first c s v (item xs (base + i + 1)) → b ≡ turned_second c s v (item xs (base + i + 1))
-    → slice_set (slice_set xs (base + i) a) (base + (i + 1)) b ≡ turned_up 1 c s base (i + 1) old
+pub up_carried : (c s : ℤ) (i : ℕ) (old xs : List ℤ) (v a b : ℤ) → i + 1 < length xs → slice_set xs i v ≡ turned_up 1 c s i old
+    → a ≡ turned_first c s v (item xs (i + 1)) → b ≡ turned_second c s v (item xs (i + 1))
+    → slice_set (slice_set xs i a) (i + 1) b ≡ turned_up 1 c s (i + 1) old
 unfolding turned_up
-up_carried c s base i old xs v a b h e f g =
-    let w : base + (i + 1) ≡ base + i + 1 = omega arith in
-    let r : slice_set (slice_set xs (base + i) a) (base + i + 1) b ≡ pair_turned 1 c s (base + i) (turned_up 1 c s base i old) =
-    first_carried c s (base + i) xs v a b h f g ∙ ap (pair_turned 1 c s (base + i)) e in
+up_carried c s i old xs v a b h e f g =
+    let r : slice_set (slice_set xs i a) (i + 1) b ≡ pair_turned 1 c s i (turned_up 1 c s i old) =
+    first_carried c s i xs v a b h f g ∙ ap (pair_turned 1 c s i) e in
     let n : suc i ≡ i + 1 = omega arith in
-    ap (λ p. slice_set (slice_set xs (base + i) a) p b) w ∙ r ∙ ap (λ k. turned_up 1 c s base k old) n
+    r ∙ ap (λ k. turned_up 1 c s k old) n
 
 -- and downwards, where i + 1 are left
-pub down_carried : (c s : ℤ) (base i : ℕ) (old xs : List ℤ) (v a b : ℤ) → base + i + 1 < length xs → turned_down 1 c s base (i + 1) (slice_set xs (base + (i + 1)) v) ≡ old
-    → a ≡ turned_first c s (item xs (base + i)) v → b ≡ turned_second c s (item xs (base + i)) v
-    → turned_down 1 c s base i (slice_set (slice_set xs (base + i + 1) b) (base + i) a) ≡ old
+pub down_carried : (c s : ℤ) (i : ℕ) (old xs : List ℤ) (v a b : ℤ) → i + 1 < length xs → turned_down 1 c s (i + 1) (slice_set xs (i + 1) v) ≡ old
+    → a ≡ turned_first c s (item xs i) v → b ≡ turned_second c s (item xs i) v
+    → turned_down 1 c s i (slice_set (slice_set xs (i + 1) b) i a) ≡ old
 unfolding turned_down
-down_carried c s base i old xs v a b h e f g =
-    let w : base + (i + 1) ≡ base + i + 1 = omega arith in
+down_carried c s i old xs v a b h e f g =
     let n : suc i ≡ i + 1 = omega arith in
-    let d : turned_down 1 c s base (suc i) (slice_set xs (base + i + 1) v) ≡ old = ap (λ k. turned_down 1 c s base k (slice_set xs (base + i + 1) v)) n ∙ ap (λ p. turned_down 1 c s base (i + 1) (slice_set xs p v)) (sym w) ∙ e in
-    ap (turned_down 1 c s base i) (second_carried c s (base + i) xs v a b h f g) ∙ d
+    let d : turned_down 1 c s (suc i) (slice_set xs (i + 1) v) ≡ old = ap (λ k. turned_down 1 c s k (slice_set xs (i + 1) v)) n ∙ e in
+    ap (turned_down 1 c s i) (second_carried c s i xs v a b h f g) ∙ d
 
 -- an item put back where it stood
 pub put_back : (xs : List ℤ) (p : ℕ) → p < length xs → slice_set xs p (item xs p) ≡ xs
@@ -69,24 +67,21 @@ pub first_is : (a c b s : ℤ) → clamped (rounded (a *ℤ c +ℤ b *ℤ (pos 0
 first_is a c b s = ap (λ z. clamped (rounded (a *ℤ c +ℤ b *ℤ z) 15)) (+ℤ_idl (neg_ℤ s)) ∙ ap (λ z. clamped (rounded (a *ℤ c +ℤ z) 15)) (*ℤ-neg_ℤ b s)
 
 -- no pairs
-pub none_up : (c s : ℤ) (base k : ℕ) (xs : List ℤ) → k ≡ 0 → xs ≡ turned_up 1 c s base k xs
+pub none_up : (c s : ℤ) (k : ℕ) (xs : List ℤ) → k ≡ 0 → xs ≡ turned_up 1 c s k xs
 unfolding turned_up
-none_up c s base k xs e = rw e refl
+none_up c s k xs e = rw e refl
 
-pub none_down : (c s : ℤ) (base k : ℕ) (xs : List ℤ) → k ≡ 0 → xs ≡ turned_down 1 c s base k xs
+pub none_down : (c s : ℤ) (k : ℕ) (xs : List ℤ) → k ≡ 0 → xs ≡ turned_down 1 c s k xs
 unfolding turned_down
-none_down c s base k xs e = rw e refl
+none_down c s k xs e = rw e refl
 
 -- the whole passes
-pub up_start : (c s : ℤ) (base : ℕ) (xs : List ℤ) → base < length xs → slice_set xs (base + 0) (item xs base) ≡ turned_up 1 c s base 0 xs
+pub up_start : (c s : ℤ) (xs : List ℤ) → 0 < length xs → slice_set xs 0 (item xs 0) ≡ turned_up 1 c s 0 xs
 unfolding turned_up
-up_start c s base xs h =
-    let e : base + 0 ≡ base = omega arith in
-    ap (λ p. slice_set xs p (item xs base)) e ∙ put_back xs base h
+up_start c s xs h = put_back xs 0 h
 
-pub down_end : (c s : ℤ) (base k : ℕ) (xs ys : List ℤ) (v : ℤ) → k ≡ 0 → turned_down 1 c s base k (slice_set xs (base + k) v) ≡ ys → slice_set xs base v ≡ ys
+pub down_end : (c s : ℤ) (k : ℕ) (xs ys : List ℤ) (v : ℤ) → k ≡ 0 → turned_down 1 c s k (slice_set xs k v) ≡ ys → slice_set xs 0 v ≡ ys
 unfolding turned_down
-down_end c s base k xs ys v e f =
-    let g : base + 0 ≡ base = omega arith in
-    let h : turned_down 1 c s base 0 (slice_set xs (base + 0) v) ≡ ys = ap (λ n. turned_down 1 c s base n (slice_set xs (base + n) v)) (sym e) ∙ f in
-    ap (λ p. slice_set xs p v) (sym g) ∙ h
+down_end c s k xs ys v e f =
+    let h : turned_down 1 c s 0 (slice_set xs 0 v) ≡ ys = ap (λ n. turned_down 1 c s n (slice_set xs n v)) (sym e) ∙ f in
+    h

@@ -1,14 +1,15 @@
 -- Each item of a run of at least two is at most 2^17 in size after its turns, whatever came in.
-use Rattle.std.proofs.Common.{◌≡◌, ◌≢◌, ℕ, zero, suc, ◌+◌, ◌-◌, ◌*◌, ◌/◌, ◌%◌, ◌^◌, ◌<◌, ◌≤◌, sym, subst, inl, inr, arith, List, length, Bool, true, false}
-use Rattle.std.specs.Prelude.{ℤ, pos, neg_ℤ, unsigned_abs, slice_set, All, nat_eq, if◌then◌else◌}
+use Rattle.std.proofs.Common.{◌≡◌, ◌≢◌, ℕ, zero, suc, ◌+◌, ◌-◌, ◌*◌, ◌/◌, ◌%◌, ◌^◌, ◌<◌, ◌≤◌, sym, subst, inl, inr, arith, List, length, take, drop, Bool, true, false}
+use Rattle.std.specs.Prelude.{ℤ, pos, neg_ℤ, unsigned_abs, slice_set, All}
 use Rattle.std.proofs.lemmas.Bool.{cases_lt, cases_eq}
 use Rattle.std.proofs.lemmas.Nat.{mul-le}
 use Rattle.std.proofs.lemmas.List.{get_or-set_same, get_or-set_other, get_or_default, get_or_past, length-set}
+use Rattle.std.proofs.lemmas.List.Elements.{All-append}
 use Rattle.std.proofs.Math.Nat.{div-add-mod}
 use Rattle.fixed_math.specs.Circle.{cosine, sine}
 use Rattle.fixed_math.specs.Items.{item}
-use Rattle.spread_fold.specs.Spreading.{turned_first, turned_second, pair_turned, turned_up, turned_down, turned, turned_far, spread_run, spread_runs, distance, spread_angle, spread_by}
-use Rattle.spread_fold.proofs.SpreadLemmas.{clamped_size, by_some}
+use Rattle.spread_fold.specs.Spreading.{turned_first, turned_second, pair_turned, turned_up, turned, turned_far, spread_run, spread_runs, distance, spread_angle, spread_by}
+use Rattle.spread_fold.proofs.SpreadLemmas.{OfSmall, clamped_size, keeps_down, keeps_far, length-take_part, length-up, length-far, by_some}
 
 -- the item at a place is small; past the end it is 0
 abbrev pub SmallAt : ℕ → List ℤ → Type 0
@@ -56,102 +57,64 @@ pair_second t c s p xs =
     let b : ℤ = turned_second c s (item xs p) (item xs (p + t)) in
     put_here (p + t) b (slice_set xs p a) (clamped_size _)
 
--- passes
-up_kept : (t : ℕ) (c s : ℤ) (base k : ℕ) (xs : List ℤ) (q : ℕ) → SmallAt q xs → SmallAt q (turned_up t c s base k xs)
+-- pairs of neighbours reach each item
+up_reached : (c s : ℤ) (k : ℕ) (xs : List ℤ) (q : ℕ) → q ≤ k → 1 ≤ k → SmallAt q (turned_up 1 c s k xs)
 unfolding turned_up
-up_kept t c s base zero xs q h = h
-up_kept t c s base (suc k) xs q h = pair_kept t c s (base + k) (turned_up t c s base k xs) q (up_kept t c s base k xs q h)
-
-down_kept : (t : ℕ) (c s : ℤ) (base k : ℕ) (xs : List ℤ) (q : ℕ) → SmallAt q xs → SmallAt q (turned_down t c s base k xs)
-unfolding turned_down
-down_kept t c s base zero xs q h = h
-down_kept t c s base (suc k) xs q h = down_kept t c s base k (pair_turned t c s (base + k) xs) q (pair_kept t c s (base + k) xs q h)
-
-turned_kept : (t : ℕ) (c s : ℤ) (base n : ℕ) (xs : List ℤ) (q : ℕ) → SmallAt q xs → SmallAt q (turned t c s base n xs)
-unfolding turned
-turned_kept t c s base n xs q h = down_kept t c s base (n - 2 * t) (turned_up t c s base (n - t) xs) q (up_kept t c s base (n - t) xs q h)
-
-either : (b : Bool) (xs ys : List ℤ) (q : ℕ) → SmallAt q xs → SmallAt q ys → SmallAt q (if b then xs else ys)
-either true xs ys q h g = h
-either false xs ys q h g = g
-
-far_kept : (t : ℕ) (c s : ℤ) (base n : ℕ) (xs : List ℤ) (q : ℕ) → SmallAt q xs → SmallAt q (turned_far t c s base n xs)
-unfolding turned_far
-far_kept t c s base n xs q h = either (nat_eq t 0) xs (turned t c s base n xs) q h (turned_kept t c s base n xs q h)
-
--- pairs of neighbours reach each item of the run
-up_reached : (c s : ℤ) (base k : ℕ) (xs : List ℤ) (q : ℕ) → base ≤ q → q ≤ base + k → 1 ≤ k → SmallAt q (turned_up 1 c s base k xs)
-unfolding turned_up
-up_reached c s base zero xs q l h e = absurd (omega arith)
-up_reached c s base (suc k) xs q l h e =
-    let mid : List ℤ = turned_up 1 c s base k xs in
-    elim (cases_eq q (base + k)) [
-      | inl i ↦ subst (λ p. SmallAt p (pair_turned 1 c s (base + k) mid)) (sym i) (pair_first 1 c s (base + k) mid)
-      | inr n ↦ elim (cases_eq q (base + k + 1)) [
-        | inl i ↦ subst (λ p. SmallAt p (pair_turned 1 c s (base + k) mid)) (sym i) (pair_second 1 c s (base + k) mid)
-        | inr m ↦ pair_kept 1 c s (base + k) mid q (up_reached c s base k xs q l (before q base k h n m) (more q base k l h n m))
+up_reached c s zero xs q h e = absurd (omega arith)
+up_reached c s (suc k) xs q h e =
+    let mid : List ℤ = turned_up 1 c s k xs in
+    elim (cases_eq q k) [
+      | inl i ↦ subst (λ p. SmallAt p (pair_turned 1 c s k mid)) (sym i) (pair_first 1 c s k mid)
+      | inr n ↦ elim (cases_eq q (k + 1)) [
+        | inl i ↦ subst (λ p. SmallAt p (pair_turned 1 c s k mid)) (sym i) (pair_second 1 c s k mid)
+        | inr m ↦ pair_kept 1 c s k mid q (up_reached c s k xs q (before q k h n m) (more q k h n m))
       ]
     ]
   where
-    before : (q base k : ℕ) → q ≤ base + suc k → (q ≡ base + k → ⊥) → (q ≡ base + k + 1 → ⊥) → q ≤ base + k
-    before q base k h n m = omega arith
+    before : (q k : ℕ) → q ≤ suc k → (q ≡ k → ⊥) → (q ≡ k + 1 → ⊥) → q ≤ k
+    before q k h n m = omega arith
 
-    more : (q base k : ℕ) → base ≤ q → q ≤ base + suc k → (q ≡ base + k → ⊥) → (q ≡ base + k + 1 → ⊥) → 1 ≤ k
-    more q base k l h n m = omega arith
+    more : (q k : ℕ) → q ≤ suc k → (q ≡ k → ⊥) → (q ≡ k + 1 → ⊥) → 1 ≤ k
+    more q k h n m = omega arith
 
-near_reached : (c s : ℤ) (base n : ℕ) (xs : List ℤ) (q : ℕ) → base ≤ q → q < base + n → 2 ≤ n → SmallAt q (turned 1 c s base n xs)
+abbrev AreSmall : List ℤ → Type 0
+AreSmall xs = All (λ v. unsigned_abs v ≤ 2 ^ 17) xs
+
+keeps_small : OfSmall (λ v. unsigned_abs v ≤ 2 ^ 17)
+keeps_small v h = h
+
+near_small : (c s : ℤ) (xs : List ℤ) → 2 ≤ length xs → AreSmall (turned 1 c s xs)
 unfolding turned
-near_reached c s base n xs q l h e = down_kept 1 c s base (n - 2 * 1) (turned_up 1 c s base (n - 1) xs) q (up_reached c s base (n - 1) xs q l (omega arith) (omega arith))
+near_small c s xs h = keeps_down (λ v. unsigned_abs v ≤ 2 ^ 17) keeps_small 1 c s (length xs - 2 * 1) (turned_up 1 c s (length xs - 1) xs) reached
+  where
+    reached : AreSmall (turned_up 1 c s (length xs - 1) xs)
+    reached q d l =
+        let g : q < length xs = omega (arith, length-up 1 c s (length xs - 1) xs) in
+        subst (λ v. unsigned_abs v ≤ 2 ^ 17) (sym (get_or_default (turned_up 1 c s (length xs - 1) xs) q d (pos 0) l)) (up_reached c s (length xs - 1) xs q (omega arith) (omega arith))
 
 -- runs
-run_kept : (forward : Bool) (t : ℕ) (c s : ℤ) (base n : ℕ) (xs : List ℤ) (q : ℕ) → SmallAt q xs → SmallAt q (spread_run forward t c s base n xs)
+run_small : (forward : Bool) (t : ℕ) (c s : ℤ) (xs : List ℤ) → 2 ≤ length xs → AreSmall (spread_run forward t c s xs)
 unfolding spread_run
-run_kept forward t c s base n xs q h =
-    either forward (turned_far t s (neg_ℤ c) base n (turned 1 c (neg_ℤ s) base n xs)) (turned 1 c s base n (turned_far t s c base n xs)) q
-    (far_kept t s (neg_ℤ c) base n (turned 1 c (neg_ℤ s) base n xs) q (turned_kept 1 c (neg_ℤ s) base n xs q h))
-    (turned_kept 1 c s base n (turned_far t s c base n xs) q (far_kept t s c base n xs q h))
+run_small true t c s xs h = keeps_far (λ v. unsigned_abs v ≤ 2 ^ 17) keeps_small t s (neg_ℤ c) (turned 1 c (neg_ℤ s) xs) (near_small c (neg_ℤ s) xs h)
+run_small false t c s xs h = near_small c s (turned_far t s c xs) (omega (arith, h, length-far t s c xs))
 
-run_reached : (forward : Bool) (t : ℕ) (c s : ℤ) (base n : ℕ) (xs : List ℤ) (q : ℕ) → base ≤ q → q < base + n → 2 ≤ n → SmallAt q (spread_run forward t c s base n xs)
-unfolding spread_run
-run_reached forward t c s base n xs q l h e =
-    either forward (turned_far t s (neg_ℤ c) base n (turned 1 c (neg_ℤ s) base n xs)) (turned 1 c s base n (turned_far t s c base n xs)) q
-    (far_kept t s (neg_ℤ c) base n (turned 1 c (neg_ℤ s) base n xs) q (near_reached c (neg_ℤ s) base n xs q l h e))
-    (near_reached c s base n (turned_far t s c base n xs) q l h e)
-
-runs_kept : (forward : Bool) (t : ℕ) (c s : ℤ) (n b : ℕ) (xs : List ℤ) (q : ℕ) → SmallAt q xs → SmallAt q (spread_runs forward t c s n b xs)
+runs_small : (forward : Bool) (t : ℕ) (c s : ℤ) (n b : ℕ) (xs : List ℤ) → b * n ≤ length xs → 2 ≤ n → AreSmall (spread_runs forward t c s n b xs)
 unfolding spread_runs
-runs_kept forward t c s n zero xs q h = h
-runs_kept forward t c s n (suc b) xs q h = run_kept forward t c s (b * n) n (spread_runs forward t c s n b xs) q (runs_kept forward t c s n b xs q h)
+runs_small forward t c s n zero xs h e = λ q d l. absurd (omega arith)
+runs_small forward t c s n (suc b) xs h e =
+    All-append (λ v. unsigned_abs v ≤ 2 ^ 17) (spread_runs forward t c s n b xs) (spread_run forward t c s (take n (drop (b * n) xs))) (runs_small forward t c s n b xs (omega arith) e)
+    (run_small forward t c s (take n (drop (b * n) xs)) (omega (arith, length-take_part n (b * n) xs (omega arith))))
 
-runs_reached : (forward : Bool) (t : ℕ) (c s : ℤ) (n b : ℕ) (xs : List ℤ) (q : ℕ) → q < b * n → 2 ≤ n → SmallAt q (spread_runs forward t c s n b xs)
-unfolding spread_runs
-runs_reached forward t c s n zero xs q h e = absurd (omega arith)
-runs_reached forward t c s n (suc b) xs q h e =
-    let mid : List ℤ = spread_runs forward t c s n b xs in
-    elim (cases_lt q (b * n)) [
-      | inl l ↦ run_kept forward t c s (b * n) n mid q (runs_reached forward t c s n b xs q l e)
-      | inr l ↦ run_reached forward t c s (b * n) n mid q l (omega arith) e
-    ]
-
-runs_small : (forward : Bool) (t : ℕ) (c s : ℤ) (n b : ℕ) (xs : List ℤ) → length xs ≤ b * n → 2 ≤ n → All (λ v. unsigned_abs v ≤ 2 ^ 17) (spread_runs forward t c s n b xs)
-runs_small forward t c s n b xs h e = λ q d l.
-    let ys : List ℤ = spread_runs forward t c s n b xs in
-    let small : SmallAt q ys = elim (cases_lt q (b * n)) [
-      | inl g ↦ runs_reached forward t c s n b xs q g e
-      | inr g ↦ runs_kept forward t c s n b xs q (past q xs (omega arith))
-    ] in
-    subst (λ v. unsigned_abs v ≤ 2 ^ 17) (sym (get_or_default ys q d (pos 0) l)) small
-
--- runs of a length that the blocks divide are the whole list
-whole_runs : (n b : ℕ) → 1 ≤ b → n % b ≡ 0 → n ≤ b * (n / b)
-whole_runs n b h e = omega (arith, div-add-mod n b)
+-- the blocks divide the list into runs of at least two
+whole_runs : (n b : ℕ) → 1 ≤ b → b * (n / b) ≤ n
+whole_runs n b h = omega (arith, div-add-mod n b)
 
 long_runs : (n b : ℕ) → 1 ≤ b → n % b ≡ 0 → 2 * b ≤ n → 2 ≤ n / b
 long_runs n b h e l = elim (cases_lt (n / b) 2) [
   | inl g ↦
       let s : n / b ≤ 1 = omega arith in
       let m : b * (n / b) ≤ b * 1 = mul-le b (n / b) b 1 (omega arith) s in
-      absurd (omega (arith, whole_runs n b h e))
+      absurd (omega (arith, div-add-mod n b))
   | inr g ↦ g
 ]
 
@@ -160,4 +123,4 @@ by_limit blocks k spread forward xs b r s p l =
     let n : ℕ = length xs in
     let some : spread ≡ 0 → ⊥ = λ e. omega arith in
     subst (All (λ v. unsigned_abs v ≤ 2 ^ 17)) (by_some blocks k spread forward xs some p)
-    (runs_small forward (distance n blocks) (cosine (spread_angle n k spread)) (sine (spread_angle n k spread)) (n / blocks) blocks xs (whole_runs n blocks b r) (long_runs n blocks b r l))
+    (runs_small forward (distance n blocks) (cosine (spread_angle n k spread)) (sine (spread_angle n k spread)) (n / blocks) blocks xs (whole_runs n blocks b) (long_runs n blocks b r l))

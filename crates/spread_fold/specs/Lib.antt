@@ -1,3 +1,4 @@
+pub mod Calm
 pub mod Masks
 pub mod Noise
 pub mod Spreading

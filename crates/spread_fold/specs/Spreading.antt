@@ -1,5 +1,5 @@
 -- Spreading: turns of pairs of a shape (RFC 6716, 4.3.4.3). Cosines and sines are in units of 2^-15.
-use Rattle.std.specs.Prelude.{ℕ, zero, suc, ◌+◌, ◌-◌, ◌*◌, ◌/◌, ◌^◌, nat_eq, nat_lt, nat_le, Bool, ◌||◌, if◌then◌else◌, ℤ, pos, neg_ℤ, ◌+ℤ◌, ◌-ℤ◌, ◌*ℤ◌, List, length, slice_set}
+use Rattle.std.specs.Prelude.{ℕ, zero, suc, ◌+◌, ◌-◌, ◌*◌, ◌/◌, ◌^◌, nat_eq, nat_lt, nat_le, Bool, ◌||◌, if◌then◌else◌, ℤ, pos, neg_ℤ, ◌+ℤ◌, ◌-ℤ◌, ◌*ℤ◌, List, [], length, take, drop, ◌++◌, slice_set}
 use Rattle.std.specs.Int.{int_max, int_min}
 use Rattle.fixed_math.specs.Circle.{cosine, sine}
 use Rattle.fixed_math.specs.Rounding.{rounded}
@@ -21,34 +21,34 @@ unfoldable pub pair_turned : ℕ → ℤ → ℤ → ℕ → List ℤ → List �
 pair_turned t c s p xs =
     slice_set (slice_set xs p (turned_first c s (item xs p) (item xs (p + t)))) (p + t) (turned_second c s (item xs p) (item xs (p + t)))
 
--- the pairs that begin at the first k places from base on, upwards; and downwards
-unfoldable pub turned_up : ℕ → ℤ → ℤ → ℕ → ℕ → List ℤ → List ℤ
-turned_up t c s base zero xs = xs
-turned_up t c s base (suc k) xs = pair_turned t c s (base + k) (turned_up t c s base k xs)
+-- the pairs that begin at the first k places, upwards; and downwards
+unfoldable pub turned_up : ℕ → ℤ → ℤ → ℕ → List ℤ → List ℤ
+turned_up t c s zero xs = xs
+turned_up t c s (suc k) xs = pair_turned t c s k (turned_up t c s k xs)
 
-unfoldable pub turned_down : ℕ → ℤ → ℤ → ℕ → ℕ → List ℤ → List ℤ
-turned_down t c s base zero xs = xs
-turned_down t c s base (suc k) xs = turned_down t c s base k (pair_turned t c s (base + k) xs)
+unfoldable pub turned_down : ℕ → ℤ → ℤ → ℕ → List ℤ → List ℤ
+turned_down t c s zero xs = xs
+turned_down t c s (suc k) xs = turned_down t c s k (pair_turned t c s k xs)
 
--- all pairs with distance t of the n items from base on, upwards, and then all but the last t downwards
-unfoldable pub turned : ℕ → ℤ → ℤ → ℕ → ℕ → List ℤ → List ℤ
-turned t c s base n xs = turned_down t c s base (n - 2 * t) (turned_up t c s base (n - t) xs)
+-- all pairs with distance t, upwards, and then all but the last t downwards
+unfoldable pub turned : ℕ → ℤ → ℤ → List ℤ → List ℤ
+turned t c s xs = turned_down t c s (length xs - 2 * t) (turned_up t c s (length xs - t) xs)
 
 -- no turn for the distance 0
-unfoldable pub turned_far : ℕ → ℤ → ℤ → ℕ → ℕ → List ℤ → List ℤ
-turned_far t c s base n xs = if nat_eq t 0 then xs else turned t c s base n xs
+unfoldable pub turned_far : ℕ → ℤ → ℤ → List ℤ → List ℤ
+turned_far t c s xs = if nat_eq t 0 then xs else turned t c s xs
 
 -- a run: the decoder turns far pairs first, by the complement of the angle, and then neighbours; the encoder turns back
-unfoldable pub spread_run : Bool → ℕ → ℤ → ℤ → ℕ → ℕ → List ℤ → List ℤ
-spread_run forward t c s base n xs =
+unfoldable pub spread_run : Bool → ℕ → ℤ → ℤ → List ℤ → List ℤ
+spread_run forward t c s xs =
     if forward
-    then turned_far t s (neg_ℤ c) base n (turned 1 c (neg_ℤ s) base n xs)
-    else turned 1 c s base n (turned_far t s c base n xs)
+    then turned_far t s (neg_ℤ c) (turned 1 c (neg_ℤ s) xs)
+    else turned 1 c s (turned_far t s c xs)
 
--- the first b runs of n items
+-- the first b runs of n items, each spread, one behind the other
 unfoldable pub spread_runs : Bool → ℕ → ℤ → ℤ → ℕ → ℕ → List ℤ → List ℤ
-spread_runs forward t c s n zero xs = xs
-spread_runs forward t c s n (suc b) xs = spread_run forward t c s (b * n) n (spread_runs forward t c s n b xs)
+spread_runs forward t c s n zero xs = []
+spread_runs forward t c s n (suc b) xs = spread_runs forward t c s n b xs ++ spread_run forward t c s (take n (drop (b * n) xs))
 
 -- the first of m numbers from t on that passes, or t + m
 unfoldable pub first_from : (ℕ → Bool) → ℕ → ℕ → ℕ
@@ -73,7 +73,8 @@ quarter_share n d = (3840 * (n * n) + d * d) / (2 * (d * d))
 unfoldable pub spread_angle : ℕ → ℕ → ℕ → ℕ
 spread_angle n k spread = quarter_share n (spread_divisor n k spread)
 
--- a shape with k pulses; nothing is done without spreading, or where there are half as many pulses as items
+-- a shape with k pulses, each block's run by itself; nothing is done without spreading, or where there are half as many
+-- pulses as items
 unfoldable pub spread_by : ℕ → ℕ → ℕ → Bool → List ℤ → List ℤ
 spread_by blocks k spread forward xs =
     if nat_eq spread 0 || nat_le (length xs) (2 * k)

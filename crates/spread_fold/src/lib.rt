@@ -3,6 +3,7 @@
 //! Every call is a whole-number formula; none takes memory.
 #![tactic(auto)]
 
+mod calm;
 mod laws;
 mod masks;
 mod neighbours;

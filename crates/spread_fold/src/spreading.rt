@@ -1,9 +1,11 @@
 //! Spreading (RFC 6716, section 4.3.4.3): pairs of a shape's items are turned by an angle that shrinks with the
 //! number of pulses, so that few pulses do not stand alone. The encoder turns the other way before its search.
-ghost use Rattle.std.specs.Prelude.{◌≡◌, ℕ, ◌+◌, ◌-◌, ◌*◌, ◌/◌, ◌%◌, ◌^◌, ◌<◌, ◌≤◌, neg_ℤ, ◌+ℤ◌, ◌*ℤ◌, unsigned_abs, length, All};
+ghost use Rattle.std.specs.Prelude.{◌≡◌, ℕ, ◌+◌, ◌-◌, ◌*◌, ◌/◌, ◌%◌, ◌^◌, ◌<◌, ◌≤◌, neg_ℤ, ◌+ℤ◌, ◌*ℤ◌, unsigned_abs, length, All, IsTrue};
 ghost use Rattle.fixed_math.specs.Rounding.{rounded};
+ghost use Rattle.spread_fold.specs.Calm.{IsCalm};
 ghost use Rattle.spread_fold.specs.Spreading.{clamped, turned_first, turned_second, pair_turned, turned_up, turned_down, turned, turned_far, spread_run, distance, quarter_share, spread_angle, spread_runs, spread_by};
 
+use crate::calm::is_calm;
 use crate::neighbours::{neighbours_down, neighbours_up};
 use fixed_math::{Trig, rounded_sum};
 
@@ -97,106 +99,127 @@ fn turn_runs(x: &mut [i64], t: usize, c: i64, s: i64, blocks: usize, forward: bo
     requires cosine { unsigned_abs c ≤ 2 ^ 15 }
     requires sine { unsigned_abs s ≤ 2 ^ 15 }
     requires blocks { 1 ≤ blocks }
+    requires runs { length x.old % blocks ≡ 0 }
     requires items { All (λ v. unsigned_abs v < 2 ^ 20) x.old }
     ensures { x.new ≡ spread_runs forward t c s (length x.old / blocks) blocks x.old }
 {
     let n = x.len() / blocks;
     for b in 0..blocks {
-        if forward {
-            turn_all(x, b * n, n, 1, c, -s);
-            turn_all(x, b * n, n, t, s, -c);
-        } else {
-            turn_all(x, b * n, n, t, s, c);
-            turn_all(x, b * n, n, 1, c, s);
-        }
+        turn_run(&mut x[b * n..(b + 1) * n], t, c, s, forward);
     }
 }
 
-// Turns all pairs with distance `t` of the `n` items from `base` on, upwards and then downwards; none for 0.
-fn turn_all(x: &mut [i64], base: usize, n: usize, t: usize, c: i64, s: i64)
+// The turns of one run, without clamps where none acts.
+fn turn_run(x: &mut [i64], t: usize, c: i64, s: i64, forward: bool)
     requires count { length x.old ≤ 176 }
-    requires within { base + n ≤ length x.old }
     requires distance { t ≤ 177 }
     requires cosine { unsigned_abs c ≤ 2 ^ 15 }
     requires sine { unsigned_abs s ≤ 2 ^ 15 }
     requires items { All (λ v. unsigned_abs v < 2 ^ 20) x.old }
-    ensures { x.new ≡ turned_far t c s base n x.old }
+    ensures { x.new ≡ spread_run forward t c s x.old }
+{
+    let calm = is_calm(x, c, s);
+    if forward {
+        turn_near(x, c, -s, calm);
+        turn_far(x, t, s, -c, calm);
+    } else {
+        turn_far(x, t, s, c, calm);
+        turn_near(x, c, s, calm);
+    }
+}
+
+// Turns all pairs with distance `t`, upwards and then downwards; none for 0. With `calm` nothing is clamped.
+fn turn_far(x: &mut [i64], t: usize, c: i64, s: i64, calm: bool)
+    requires count { length x.old ≤ 176 }
+    requires distance { t ≤ 177 }
+    requires cosine { unsigned_abs c ≤ 2 ^ 15 }
+    requires sine { unsigned_abs s ≤ 2 ^ 15 }
+    requires items { All (λ v. unsigned_abs v < 2 ^ 20) x.old }
+    requires calm { IsTrue calm → IsCalm (2 * length x.old) c s x.old }
+    ensures { x.new ≡ turned_far t c s x.old }
 {
     if t == 1 {
-        turn_neighbours(x, base, n, c, s);
+        turn_near(x, c, s, calm);
     } else if t > 0 {
-        turn_up(x, base, n.saturating_sub(t), t, c, s);
-        turn_down(x, base, n.saturating_sub(2 * t), t, c, s);
+        let n = x.len();
+        turn_up(x, n.saturating_sub(t), t, c, s, calm);
+        turn_down(x, n.saturating_sub(2 * t), t, c, s, calm);
     }
 }
 
 // The same with distance 1.
-fn turn_neighbours(x: &mut [i64], base: usize, n: usize, c: i64, s: i64)
+fn turn_near(x: &mut [i64], c: i64, s: i64, calm: bool)
     requires count { length x.old ≤ 176 }
-    requires within { base + n ≤ length x.old }
     requires cosine { unsigned_abs c ≤ 2 ^ 15 }
     requires sine { unsigned_abs s ≤ 2 ^ 15 }
     requires items { All (λ v. unsigned_abs v < 2 ^ 20) x.old }
-    ensures { x.new ≡ turned 1 c s base n x.old }
+    requires calm { IsTrue calm → IsCalm (2 * length x.old) c s x.old }
+    ensures { x.new ≡ turned 1 c s x.old }
 {
-    neighbours_up(x, base, n.saturating_sub(1), c, s);
-    neighbours_down(x, base, n.saturating_sub(2), c, s);
+    let n = x.len();
+    neighbours_up(x, n.saturating_sub(1), c, s, calm);
+    neighbours_down(x, n.saturating_sub(2), c, s, calm);
 }
 
-// Turns the pairs that begin at the `k` places from `base` on, upwards.
-fn turn_up(x: &mut [i64], base: usize, k: usize, t: usize, c: i64, s: i64)
+// Turns the pairs that begin at the first `k` places, upwards.
+fn turn_up(x: &mut [i64], k: usize, t: usize, c: i64, s: i64, calm: bool)
     requires count { length x.old ≤ 176 }
     requires distance { (1 ≤ t) × (t ≤ 177) }
-    requires within { 1 ≤ k → base + k + t ≤ length x.old }
+    requires within { 1 ≤ k → k + t ≤ length x.old }
     requires cosine { unsigned_abs c ≤ 2 ^ 15 }
     requires sine { unsigned_abs s ≤ 2 ^ 15 }
     requires items { All (λ v. unsigned_abs v < 2 ^ 20) x.old }
-    ensures { x.new ≡ turned_up t c s base k x.old }
+    requires calm { IsTrue calm → IsCalm k c s x.old }
+    ensures { x.new ≡ turned_up t c s k x.old }
 {
     for i in 0..k {
-        turn_pair(x, base + i, t, c, s);
+        turn_pair(x, i, t, c, s, calm);
     }
 }
 
 // The same downwards.
-fn turn_down(x: &mut [i64], base: usize, k: usize, t: usize, c: i64, s: i64)
+fn turn_down(x: &mut [i64], k: usize, t: usize, c: i64, s: i64, calm: bool)
     requires count { length x.old ≤ 176 }
     requires distance { (1 ≤ t) × (t ≤ 177) }
-    requires within { 1 ≤ k → base + k + t ≤ length x.old }
+    requires within { 1 ≤ k → k + t ≤ length x.old }
     requires cosine { unsigned_abs c ≤ 2 ^ 15 }
     requires sine { unsigned_abs s ≤ 2 ^ 15 }
     requires items { All (λ v. unsigned_abs v < 2 ^ 20) x.old }
-    ensures { x.new ≡ turned_down t c s base k x.old }
+    requires calm { IsTrue calm → IsCalm k c s x.old }
+    ensures { x.new ≡ turned_down t c s k x.old }
 {
     for i in (0..k).rev() {
-        turn_pair(x, base + i, t, c, s);
+        turn_pair(x, i, t, c, s, calm);
     }
 }
 
 // Turns the pair at `p` and `p + t`.
-fn turn_pair(x: &mut [i64], p: usize, t: usize, c: i64, s: i64)
+fn turn_pair(x: &mut [i64], p: usize, t: usize, c: i64, s: i64, calm: bool)
     requires distance { (1 ≤ t) × (t ≤ 177) }
     requires within { p + t < length x.old }
     requires count { length x.old ≤ 176 }
     requires cosine { unsigned_abs c ≤ 2 ^ 15 }
     requires sine { unsigned_abs s ≤ 2 ^ 15 }
     requires items { All (λ v. unsigned_abs v < 2 ^ 20) x.old }
+    requires calm { IsTrue calm → IsCalm 1 c s x.old }
     ensures { x.new ≡ pair_turned t c s p x.old }
 {
     let a = x[p];
     let b = x[p + t];
-    x[p] = turned_number(a, c, b, -s);
-    x[p + t] = turned_number(b, c, a, s);
+    x[p] = turned_number(a, c, b, -s, calm);
+    x[p + t] = turned_number(b, c, a, s, calm);
 }
 
-/// One number of a turned pair.
-pub fn turned_number(a: i64, c: i64, b: i64, s: i64) -> i64
+/// One number of a turned pair, which is not clamped with `calm`.
+pub fn turned_number(a: i64, c: i64, b: i64, s: i64, calm: bool) -> i64
     requires first { unsigned_abs a < 2 ^ 20 }
     requires second { unsigned_abs b < 2 ^ 20 }
     requires cosine { unsigned_abs c ≤ 2 ^ 15 }
     requires sine { unsigned_abs s ≤ 2 ^ 15 }
+    requires calm { IsTrue calm → unsigned_abs (rounded (a *ℤ c +ℤ b *ℤ s) 15) ≤ 2 ^ 17 }
     ensures value { result ≡ clamped (rounded (a *ℤ c +ℤ b *ℤ s) 15) }
     ensures size { unsigned_abs result ≤ 2 ^ 17 }
 {
-    rounded_sum(a, c, b, s).clamp(-LIMIT, LIMIT)
+    let v = rounded_sum(a, c, b, s);
+    if calm { v } else { v.clamp(-LIMIT, LIMIT) }
 }

@@ -111,7 +111,8 @@ fn sides_of(v: i64, w: i64, mid: i64) -> Sides
     }
 }
 
-fn square_of(v: i64) -> u64
+/// The square.
+pub fn square_of(v: i64) -> u64
     requires { unsigned_abs v ≤ 2 ^ 21 }
     ensures value { result ≡ square v }
     ensures size { result ≤ 2 ^ 42 }

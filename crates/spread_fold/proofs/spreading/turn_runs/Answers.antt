@@ -1,64 +1,33 @@
-use Rattle.std.proofs.Common.{◌≡◌, ℕ, refl, ap, ◌∙◌, ◌+◌, ◌*◌, ◌/◌, arith, subst, sym, ◌<◌, ◌^◌, length, List}
-use Rattle.std.specs.Prelude.{ℤ, pos, neg_ℤ, ◌-ℤ◌, unsigned_abs, All, FitsSigned}
-use Rattle.std.specs.Int.{w64}
-use Rattle.std.proofs.lemmas.Int.{to_z-of_z, fits_signed_from_abs, ints}
-use Rattle.std.proofs.Math.IntN.{+ℤ_idl}
-use Rattle.spread_fold.specs.Spreading.{turned_far, spread_runs}
-use Rattle.spread_fold.proofs.SpreadLemmas.{keeps_runs, keeps_far, run_forward, run_back, small_below}
+use Rattle.std.proofs.Common.{◌≡◌, ℕ, ◌+◌, ◌-◌, ◌*◌, ◌/◌, ◌≤◌, ◌<◌, ◌^◌, arith, length, take, drop, ◌++◌, List}
+use Rattle.std.specs.Prelude.{ℤ, unsigned_abs, All}
+use Rattle.std.proofs.lemmas.Int.{to_z-of_z}
+use Rattle.std.proofs.lemmas.List.{length-take, length-drop}
+use Rattle.spread_fold.specs.Spreading.{spread_runs, spread_run}
+use Rattle.spread_fold.proofs.SpreadLemmas.{runs_begun, runs_more, runs_ended, runs_within, runs_whole, keeps_going, all_run, small_below}
 use Rattle.spread_fold.proofs.spreading.turn_runs.Goals as goal
-use Rattle.spread_fold.proofs.spreading.turn_runs.Goals.{then-forward, else-forward}
 
 pub loop-b-init : goal.loop-b-init
-unfolding spread_runs
-loop-b-init c = refl
+loop-b-init c =
+    let fc = c.ranges.c in
+    let fs = c.ranges.s in
+    simp to_z-of_z (runs_begun c.args.forward c.args.t c.args.c c.args.s (length c.args.x.now / c.args.blocks) c.args.x.now)
 
-pub turn_all-requires-clause-items : goal.turn_all-requires-clause-items
-turn_all-requires-clause-items c =
+pub turn_run-requires-clause-count : goal.turn_run-requires-clause-count
+turn_run-requires-clause-count c =
+    let n : ℕ = length c.args.x.now / c.args.blocks in
+    let b : ℕ = c.loop-b.b in
+    omega (arith, length-take ((b + 1) * n - b * n) (drop (b * n) c.loop-b.x), length-drop (b * n) c.loop-b.x, c.loop-b.auto.x, c.requires.count)
+
+pub turn_run-requires-clause-items : goal.turn_run-requires-clause-items
+turn_run-requires-clause-items c =
     let fc = c.ranges.c in
     let fs = c.ranges.s in
     let xs : List ℤ = c.args.x.now in
     let n : ℕ = length xs / c.args.blocks in
     let b : ℕ = c.loop-b.b in
-    let e : c.loop-b.x ≡ spread_runs c.args.forward c.args.t c.args.c c.args.s n b xs = simp to_z-of_z at c.loop-b.invariant in
-    let h : All (λ v. unsigned_abs v < 2 ^ 20) c.loop-b.x = subst (All (λ v. unsigned_abs v < 2 ^ 20)) (sym e) (keeps_runs (λ v. unsigned_abs v < 2 ^ 20) small_below c.args.forward c.args.t c.args.c c.args.s n b xs c.requires.items) in
-    h
-
-pub turn_all-requires-then-forward-clause-items : goal.turn_all-requires-then-forward-clause-items
-turn_all-requires-then-forward-clause-items c =
-    let fc = c.ranges.c in
-    let fs = c.ranges.s in
-    let xs : List ℤ = c.args.x.now in
-    let n : ℕ = length xs / c.args.blocks in
-    let b : ℕ = c.loop-b.b in
-    let e : c.loop-b.x ≡ spread_runs c.args.forward c.args.t c.args.c c.args.s n b xs = simp to_z-of_z at c.loop-b.invariant in
-    let h : All (λ v. unsigned_abs v < 2 ^ 20) c.loop-b.x = subst (All (λ v. unsigned_abs v < 2 ^ 20)) (sym e) (keeps_runs (λ v. unsigned_abs v < 2 ^ 20) small_below c.args.forward c.args.t c.args.c c.args.s n b xs c.requires.items) in
-    let ns : FitsSigned w64 (pos 0 -ℤ c.args.s) = fits_signed_from_abs w64 (pos 0 -ℤ c.args.s) (omega (arith, ints)) in
-    let nc : FitsSigned w64 (pos 0 -ℤ c.args.c) = fits_signed_from_abs w64 (pos 0 -ℤ c.args.c) (omega (arith, ints)) in
-    let u : c.turn_all.new.x ≡ turned_far 1 c.args.c (pos 0 -ℤ c.args.s) (b * n) n c.loop-b.x = simp to_z-of_z at c.turn_all.ensures in
-    subst (All (λ v. unsigned_abs v < 2 ^ 20)) (sym u) (keeps_far (λ v. unsigned_abs v < 2 ^ 20) small_below 1 c.args.c (pos 0 -ℤ c.args.s) (b * n) n c.loop-b.x h)
-
-pub turn_all-requires-else-forward-clause-items : goal.turn_all-requires-else-forward-clause-items
-turn_all-requires-else-forward-clause-items c =
-    let fc = c.ranges.c in
-    let fs = c.ranges.s in
-    let xs : List ℤ = c.args.x.now in
-    let n : ℕ = length xs / c.args.blocks in
-    let b : ℕ = c.loop-b.b in
-    let e : c.loop-b.x ≡ spread_runs c.args.forward c.args.t c.args.c c.args.s n b xs = simp to_z-of_z at c.loop-b.invariant in
-    let h : All (λ v. unsigned_abs v < 2 ^ 20) c.loop-b.x = subst (All (λ v. unsigned_abs v < 2 ^ 20)) (sym e) (keeps_runs (λ v. unsigned_abs v < 2 ^ 20) small_below c.args.forward c.args.t c.args.c c.args.s n b xs c.requires.items) in
-    h
-
-pub turn_all-requires-else-forward-2-clause-items : goal.turn_all-requires-else-forward-2-clause-items
-turn_all-requires-else-forward-2-clause-items c =
-    let fc = c.ranges.c in
-    let fs = c.ranges.s in
-    let xs : List ℤ = c.args.x.now in
-    let n : ℕ = length xs / c.args.blocks in
-    let b : ℕ = c.loop-b.b in
-    let e : c.loop-b.x ≡ spread_runs c.args.forward c.args.t c.args.c c.args.s n b xs = simp to_z-of_z at c.loop-b.invariant in
-    let h : All (λ v. unsigned_abs v < 2 ^ 20) c.loop-b.x = subst (All (λ v. unsigned_abs v < 2 ^ 20)) (sym e) (keeps_runs (λ v. unsigned_abs v < 2 ^ 20) small_below c.args.forward c.args.t c.args.c c.args.s n b xs c.requires.items) in
-    let u : c.turn_all-else-forward.new.x ≡ turned_far c.args.t c.args.s c.args.c (b * n) n c.loop-b.x = simp to_z-of_z at c.turn_all-else-forward.ensures in
-    subst (All (λ v. unsigned_abs v < 2 ^ 20)) (sym u) (keeps_far (λ v. unsigned_abs v < 2 ^ 20) small_below c.args.t c.args.s c.args.c (b * n) n c.loop-b.x h)
+    let e : c.loop-b.x ≡ spread_runs c.args.forward c.args.t c.args.c c.args.s n b xs ++ drop (b * n) xs = simp to_z-of_z at c.loop-b.invariant in
+    all_run (λ v. unsigned_abs v < 2 ^ 20) ((b + 1) * n - b * n) (b * n) c.loop-b.x
+    (keeps_going (λ v. unsigned_abs v < 2 ^ 20) small_below c.args.forward c.args.t c.args.c c.args.s n b xs c.loop-b.x e c.requires.items)
 
 pub loop-b-preserved : goal.loop-b-preserved
 loop-b-preserved c =
@@ -67,22 +36,11 @@ loop-b-preserved c =
     let xs : List ℤ = c.args.x.now in
     let n : ℕ = length xs / c.args.blocks in
     let b : ℕ = c.loop-b.b in
-    let e : c.loop-b.x ≡ spread_runs c.args.forward c.args.t c.args.c c.args.s n b xs = simp to_z-of_z at c.loop-b.invariant in
-    let ns : FitsSigned w64 (pos 0 -ℤ c.args.s) = fits_signed_from_abs w64 (pos 0 -ℤ c.args.s) (omega (arith, ints)) in
-    let nc : FitsSigned w64 (pos 0 -ℤ c.args.c) = fits_signed_from_abs w64 (pos 0 -ℤ c.args.c) (omega (arith, ints)) in
-    let goes : c.if-forward.x ≡ spread_runs c.args.forward c.args.t c.args.c c.args.s n (b + 1) xs = elim c.if-forward.branch [
-      | then-forward w ↦
-          let u : w.turn_all.new.x ≡ turned_far 1 c.args.c (pos 0 -ℤ c.args.s) (b * n) n c.loop-b.x = simp to_z-of_z at w.turn_all.ensures in
-          let v : w.turn_all-then-forward.new.x ≡ turned_far c.args.t c.args.s (pos 0 -ℤ c.args.c) (b * n) n w.turn_all.new.x = simp to_z-of_z at w.turn_all-then-forward.ensures in
-          run_forward c.args.t c.args.c c.args.s n b xs c.loop-b.x w.turn_all.new.x c.if-forward.x c.args.forward w.if-forward.true e
-          (u ∙ ap (λ z. turned_far 1 c.args.c z (b * n) n c.loop-b.x) (+ℤ_idl (neg_ℤ c.args.s)))
-          (w.x-is ∙ v ∙ ap (λ z. turned_far c.args.t c.args.s z (b * n) n w.turn_all.new.x) (+ℤ_idl (neg_ℤ c.args.c)))
-      | else-forward w ↦
-          let u : w.turn_all-else-forward.new.x ≡ turned_far c.args.t c.args.s c.args.c (b * n) n c.loop-b.x = simp to_z-of_z at w.turn_all-else-forward.ensures in
-          let v : w.turn_all-else-forward-2.new.x ≡ turned_far 1 c.args.c c.args.s (b * n) n w.turn_all-else-forward.new.x = simp to_z-of_z at w.turn_all-else-forward-2.ensures in
-          run_back c.args.t c.args.c c.args.s n b xs c.loop-b.x w.turn_all-else-forward.new.x c.if-forward.x c.args.forward w.if-forward.false e u (w.x-is ∙ v)
-    ] in
-    simp to_z-of_z goes
+    let e : c.loop-b.x ≡ spread_runs c.args.forward c.args.t c.args.c c.args.s n b xs ++ drop (b * n) xs = simp to_z-of_z at c.loop-b.invariant in
+    let f : c.turn_run.new.x ≡ spread_run c.args.forward c.args.t c.args.c c.args.s (take ((b + 1) * n - b * n) (drop (b * n) c.loop-b.x)) = simp to_z-of_z at c.turn_run.ensures in
+    simp to_z-of_z
+    (runs_more c.args.forward c.args.t c.args.c c.args.s n b ((b + 1) * n - b * n) xs c.loop-b.x c.turn_run.new.x (omega arith)
+    (runs_within (length xs) b c.args.blocks c.requires.blocks c.loop-b-test.true) e f)
 
 pub returns : goal.returns
 returns c =
@@ -90,7 +48,6 @@ returns c =
     let fs = c.ranges.s in
     let xs : List ℤ = c.args.x.now in
     let n : ℕ = length xs / c.args.blocks in
-    let b : ℕ = c.loop-b.b in
-    let e : c.loop-b.x ≡ spread_runs c.args.forward c.args.t c.args.c c.args.s n b xs = simp to_z-of_z at c.loop-b.invariant in
-    let d : b ≡ c.args.blocks = omega arith in
-    e ∙ ap (λ k. spread_runs c.args.forward c.args.t c.args.c c.args.s n k xs) d
+    let e : c.loop-b.x ≡ spread_runs c.args.forward c.args.t c.args.c c.args.s n c.loop-b.b xs ++ drop (c.loop-b.b * n) xs = simp to_z-of_z at c.loop-b.invariant in
+    runs_ended c.args.forward c.args.t c.args.c c.args.s n c.loop-b.b c.args.blocks xs c.loop-b.x (omega (arith, c.loop-b.auto.b-end, c.loop-b-test.false))
+    (runs_whole (length xs) c.args.blocks c.requires.blocks c.requires.runs) e

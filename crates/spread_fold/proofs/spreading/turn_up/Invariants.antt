@@ -4,4 +4,4 @@ use Rattle.spread_fold.proofs.spreading.turn_up.Given as goal
 
 -- the first pairs are turned
 abbrev pub invariant-loop-i : goal.invariant-loop-i
-invariant-loop-i l = l.x ≡ turned_up l.t l.c l.s l.base l.i l.fn.x
+invariant-loop-i l = l.x ≡ turned_up l.t l.c l.s l.i l.fn.x
