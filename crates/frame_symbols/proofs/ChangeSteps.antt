@@ -6,14 +6,13 @@ use Rattle.celt_base.specs.declared.coder.Place.TheVariants.{Tf, TfSelect}
 use Rattle.celt_base.specs.declared.kind.Kind.{Kind}
 use Rattle.celt_base.specs.Paces.{tell_of}
 use Rattle.celt_base.specs.WalkCalls.{CoderCalls, ChooserCalls}
-use Rattle.celt_base.specs.WalkScripts.{asks_bit}
+use Rattle.celt_base.specs.WalkScripts.{asks_bit, bit_within}
 use Rattle.celt_base.specs.Walks.{Walked}
 use Rattle.celt_base.proofs.WalkSteps.{Going, start, look, walk, walk_last, end, when_true, when_false, no_walk}
 use Rattle.std.proofs.lemmas.List.{get_or-set_same, get_or-set_other, length-set}
 use Rattle.band_plan.specs.Plans.{IsChange}
 use Rattle.celt_base.proofs.BandEnds.{end_most}
 use Rattle.celt_tables.specs.Tables.{change_of}
-use Rattle.frame_symbols.specs.Askings.{bit_within}
 use Rattle.frame_symbols.specs.Changes.{weight_of, turned, flags_script, any_below, kept_of, differ, select_script, set_changes, changes_of, changes_by, changes_script}
 
 -- an entry more

@@ -12,87 +12,50 @@ use Rattle.celt_base.specs.declared.kind.Kind.{Kind}
 use Rattle.celt_base.specs.declared.question.Question.{Question}
 use Rattle.celt_base.specs.Paces.{Pace, paced, tell_of, tell_frac_of}
 use Rattle.celt_base.specs.Questions.{Answered}
-use Rattle.celt_base.specs.WalkOrders.{AtMost, InOrder, next}
-use Rattle.celt_base.specs.WalkScripts.{Script, Done, Look, Ask, Begin, and_then, asks_at, asks_bit}
-use Rattle.celt_base.proofs.WalkOrders.{most_more, most_then, most_answer, most_bit}
+use Rattle.celt_base.specs.WalkOrders.{IsMost}
+use Rattle.celt_base.specs.WalkScripts.{Script, Done, Look, Ask, Begin, and_then, asks_at, asks_bit, asks_number, bit_within}
+use Rattle.celt_base.proofs.CountSteps.{most_none, with_most, then_most, more_most, look_most, most_if, answer_most, bit_most, number_most, within_most}
 use Rattle.frame_symbols.specs.declared.boosts.Band.{Band}
 use Rattle.frame_symbols.specs.declared.fields.Amounts.{Amounts}
 use Rattle.frame_symbols.specs.declared.fields.Opening.{Opening}
 use Rattle.frame_symbols.specs.declared.fields.Shaping.{Shaping}
-use Rattle.frame_symbols.specs.Askings.{asks_number, bit_within, number_within, number_within_eighths}
+use Rattle.frame_symbols.specs.Askings.{number_within, number_within_eighths}
 use Rattle.band_plan.specs.Plans.{bands_script}
 use Rattle.frame_symbols.specs.Boosts.{band_of, may_boost, turn_script, turns_script, boosts_from, boosts_script, trim_script}
 use Rattle.frame_symbols.specs.Changes.{flags_script, select_script, differ, kept_of, changes_by, changes_script, any_below, turned}
 use Rattle.frame_symbols.specs.Openings.{on_script, filter_script, transient_script}
 use Rattle.frame_symbols.specs.Frames.{opening_script, spread_script, shaping_script, amounts_by, amounts_script, collapse_script, ending_script, sound_script, unless_silent, frame_script}
 
--- The script asks at most so many questions, as a record, so that the parts of a joined script are found.
-pub record IsMost {A : Type 0} (n : ℕ) (script : Script A) : Type 0 where
-  pub is : AtMost n script
-
-none : {A : Type 0} {n : ℕ} {value : A} → IsMost n (Done value)
-none = record { is = tt }
-
-with_most : {A : Type 0} (n : ℕ) (script : Script A) → AtMost n script → IsMost n script
-with_most n script most = record { is = most }
-
-then_most : {A B : Type 0} {first : Script A} {next : A → Script B} (m n : ℕ) → IsMost m first → ((value : A) → IsMost n (next value)) → IsMost (m + n) (and_then first next)
-then_most {first = first} {next = next} m n a b = record { is = most_then first next m n a.is (λ value gives. (b value).is) }
-
-more_most : {A : Type 0} {script : Script A} (m n : ℕ) → m ≤ n → IsMost m script → IsMost n script
-more_most {script = script} m n le a = record { is = most_more script m n le a.is }
-
-look_most : {A : Type 0} {n : ℕ} {from : Pace → Script A} → ((pace : Pace) → IsMost n (from pace)) → IsMost n (Look from)
-look_most f = record { is = λ pace. (f pace).is }
-
-most_if : {A : Type 0} (n : ℕ) (test : Bool) {first second : Script A} → IsMost n first → IsMost n second → IsMost n (if test then first else second)
-most_if n true a b = a
-most_if n false a b = b
-
-bit_most : (at : Place) (p : ℕ) → IsMost 1 (asks_bit at p)
-bit_most at p = record { is = most_bit at p }
-
-answer_most : (at : Place) (question : Question) → IsMost 1 (asks_at at question)
-answer_most at question = record { is = most_answer at question }
-
-number_most : (at : Place) (question : Question) → IsMost 1 (asks_number at question)
-unfolding asks_number asks_at
-number_most at question = record { is = λ answer is. tt }
-
-within_most : (at : Place) (p cost budget : ℕ) → IsMost 1 (bit_within at p cost budget)
-unfolding bit_within
-within_most at p cost budget = look_most (λ pace. most_if 1 (nat_le (tell_of pace + cost) budget) (bit_most at p) none)
-
 number_within_most : (at : Place) (question : Question) (cost budget other : ℕ) → IsMost 1 (number_within at question cost budget other)
 unfolding number_within
-number_within_most at question cost budget other = look_most (λ pace. most_if 1 (nat_le (tell_of pace + cost) budget) (number_most at question) none)
+number_within_most at question cost budget other = look_most (λ pace. most_if 1 (nat_le (tell_of pace + cost) budget) (number_most at question) most_none)
 
 eighths_most : (at : Place) (question : Question) (cost budget other : ℕ) → IsMost 1 (number_within_eighths at question cost budget other)
 unfolding number_within_eighths
-eighths_most at question cost budget other = look_most (λ pace. most_if 1 (nat_le (tell_frac_of pace + cost) budget) (number_most at question) none)
+eighths_most at question cost budget other = look_most (λ pace. most_if 1 (nat_le (tell_frac_of pace + cost) budget) (number_most at question) most_none)
 
 on_most : (budget : ℕ) → IsMost 4 (on_script budget)
 unfolding on_script
-on_most budget = then_most 1 3 (number_most _ _) (λ octave. then_most 1 2 (number_most _ _) (λ place. then_most 1 1 (number_most _ _) (λ gain. then_most 1 0 (number_within_most _ _ _ _ _) (λ tapset. none))))
+on_most budget = then_most 1 3 (number_most _ _) (λ octave. then_most 1 2 (number_most _ _) (λ place. then_most 1 1 (number_most _ _) (λ gain. then_most 1 0 (number_within_most _ _ _ _ _) (λ tapset. most_none))))
 
 filter_most : (budget : ℕ) → IsMost 5 (filter_script budget)
 unfolding filter_script
-filter_most budget = then_most 1 4 (within_most _ _ _ _) (λ on. most_if 4 on (on_most budget) none)
+filter_most budget = then_most 1 4 (within_most _ _ _ _) (λ on. most_if 4 on (on_most budget) most_none)
 
 transient_most : (kind : Kind) (budget : ℕ) → IsMost 1 (transient_script kind budget)
 unfolding transient_script
-transient_most kind budget = most_if 1 (nat_eq kind.lm 0) none (within_most _ _ _ _)
+transient_most kind budget = most_if 1 (nat_eq kind.lm 0) most_none (within_most _ _ _ _)
 
 opening_most : (kind : Kind) (budget : ℕ) → IsMost 7 (opening_script kind budget)
 unfolding opening_script
 opening_most kind budget =
     then_most 5 2 (filter_most budget) (λ post_filter.
     then_most 1 1 (transient_most kind budget) (λ transient.
-    then_most 1 0 (within_most _ _ _ _) (λ intra. none)))
+    then_most 1 0 (within_most _ _ _ _) (λ intra. most_none)))
 
 flags_most : (transient : Bool) (budget left band : ℕ) (flag : Bool) (flags : List Bool) → IsMost left (flags_script transient budget left band flag flags)
 unfolding flags_script
-flags_most transient budget zero band flag flags = none
+flags_most transient budget zero band flag flags = most_none
 flags_most transient budget (suc left) band flag flags =
     let e : 1 + left ≡ suc left = omega arith in
     subst (λ n. IsMost n (flags_script transient budget (suc left) band flag flags)) e
@@ -100,28 +63,28 @@ flags_most transient budget (suc left) band flag flags =
 
 select_most : (lm : ℕ) (transient : Bool) (kept : ℕ) (any : Bool) → IsMost 1 (select_script lm transient kept any)
 unfolding select_script
-select_most lm transient kept any = most_if 1 (nat_eq kept 1 && differ lm transient any) (bit_most _ _) none
+select_most lm transient kept any = most_if 1 (nat_eq kept 1 && differ lm transient any) (bit_most _ _) most_none
 
 changes_most : (kind : Kind) (transient : Bool) (budget : ℕ) → IsMost 22 (changes_script kind transient budget)
 unfolding changes_script changes_by
 changes_most kind transient budget = look_most (λ pace.
     let kept = kept_of kind.lm transient budget (tell_of pace) in
     then_most 21 1 (more_most kind.end 21 (end_most kind) (flags_most transient (budget - kept) kind.end 0 false _)) (λ flags.
-    then_most 1 0 (select_most kind.lm transient kept (any_below flags 21)) (λ select. none)))
+    then_most 1 0 (select_most kind.lm transient kept (any_below flags 21)) (λ select. most_none)))
 
 turns_most : (b : Band) (left turn : ℕ) → IsMost left (turns_script b left turn)
 unfolding turns_script turn_script
-turns_most b zero turn = none
+turns_most b zero turn = most_none
 turns_most b (suc left) turn =
     let e : 1 + left ≡ suc left = omega arith in
     subst (λ n. IsMost n (turns_script b (suc left) turn)) e
     (then_most 1 left
-    (look_most (λ pace. most_if 1 (may_boost b turn (tell_frac_of pace)) (bit_most _ _) none))
-    (λ more. most_if left more (turns_most b left (turn + 1)) none))
+    (look_most (λ pace. most_if 1 (may_boost b turn (tell_frac_of pace)) (bit_most _ _) most_none))
+    (λ more. most_if left more (turns_most b left (turn + 1)) most_none))
 
 boosts_most : (kind : Kind) (eighths left band : ℕ) (boosts : List ℤ) → IsMost (left * 76) (boosts_from kind eighths left band boosts)
 unfolding boosts_from
-boosts_most kind eighths zero band boosts = none
+boosts_most kind eighths zero band boosts = most_none
 boosts_most kind eighths (suc left) band boosts =
     let e : 76 + left * 76 ≡ suc left * 76 = omega arith in
     subst (λ n. IsMost n (boosts_from kind eighths (suc left) band boosts)) e
@@ -133,15 +96,15 @@ shaping_most kind transient len =
     then_most 22 1598 (changes_most kind transient (8 * len)) (λ changes.
     then_most 1 1597 (number_within_most _ _ _ _ _) (λ spread.
     then_most 1596 1 (more_most (kind.end * 76) 1596 (let e = end_most kind in omega (arith, e)) (boosts_most kind (64 * len) kind.end 0 _)) (λ boosts.
-    then_most 1 0 (eighths_most _ _ _ _ _) (λ trim. none))))
+    then_most 1 0 (eighths_most _ _ _ _ _) (λ trim. most_none))))
 
 amounts_most : (kind : Kind) (len : ℕ) (s : Shaping) → IsMost 22 (amounts_script kind len s)
 unfolding amounts_script amounts_by
-amounts_most kind len s = look_most (λ pace. then_most 22 0 (with_most 22 (allocation_script kind _ s.boosts (pos s.trim)) (questions_law kind _ s.boosts (pos s.trim))) (λ a. none))
+amounts_most kind len s = look_most (λ pace. then_most 22 0 (with_most 22 (allocation_script kind _ s.boosts (pos s.trim)) (questions_law kind _ s.boosts (pos s.trim))) (λ a. most_none))
 
 collapse_most : (reserve : ℕ) → IsMost 1 (collapse_script reserve)
 unfolding collapse_script
-collapse_most reserve = most_if 1 (nat_eq reserve 0) none (then_most 1 0 (answer_most _ _) (λ answer. none))
+collapse_most reserve = most_if 1 (nat_eq reserve 0) most_none (then_most 1 0 (answer_most _ _) (λ answer. most_none))
 
 ending_most : (kind : Kind) (len : ℕ) (o : Opening) (coarse : List (List ℤ)) (s : Shaping) (m : Amounts) → IsMost 1408 (ending_script kind len o coarse s m)
 unfolding ending_script
@@ -149,7 +112,7 @@ ending_most kind len o coarse s m =
     then_most 42 1366 (with_most 42 (fine_script kind m.allocation) (fine_most kind m.allocation)) (λ fine.
     then_most 1323 43 (with_most 1323 (bands_script kind s.settings m.allocation _) (most_bands kind s.settings m.allocation _)) (λ plans.
     then_most 1 42 (collapse_most m.reserve) (λ collapse.
-    then_most 42 0 (with_most 42 (last_script kind m.allocation (8 * len)) (last_most kind m.allocation (8 * len))) (λ last. none))))
+    then_most 42 0 (with_most 42 (last_script kind m.allocation (8 * len)) (last_most kind m.allocation (8 * len))) (λ last. most_none))))
 
 sound_most : (kind : Kind) (len : ℕ) → IsMost 3099 (sound_script kind len)
 unfolding sound_script
@@ -160,23 +123,9 @@ sound_most kind len =
     then_most 22 1408 (amounts_most kind len s) (λ m. ending_most kind len o coarse s m))))
 
 unless_most : (kind : Kind) (len : ℕ) (silent : Bool) → IsMost 3099 (unless_silent kind len silent)
-unless_most kind len true = none
-unless_most kind len false = then_most 3099 0 (sound_most kind len) (λ sound. none)
+unless_most kind len true = most_none
+unless_most kind len false = then_most 3099 0 (sound_most kind len) (λ sound. most_none)
 
 pub frame_most : (kind : Kind) (len : ℕ) → IsMost 3100 (frame_script kind len)
 unfolding frame_script
 frame_most kind len = then_most 1 3099 (bit_most _ _) (λ silent. unless_most kind len silent)
-
--- a list in order is no longer than the script's questions
-module _ {A : Type 0} where
-  pub list_most : (n : ℕ) (script : Script A) (pace : Pace) (list : List Answered) → AtMost n script → InOrder script pace list → length list ≤ n
-  list_most n script pace [] most order = omega arith
-  list_most n (Done value) pace (a ∷ list) most order = absurd (order [] a list refl)
-  list_most n (Look look) pace (a ∷ list) most order = list_most n (look pace) pace (a ∷ list) (most pace) order
-  list_most n (Begin at script) pace (a ∷ list) most order = list_most n script pace (a ∷ list) most order
-  list_most zero (Ask at question follow) pace (a ∷ list) most order = absurd most
-  list_most (suc n) (Ask at question follow) pace (a ∷ list) most order =
-      let is = order [] a list refl in
-      let rest = list_most n (follow a.answer) (paced question a.answer pace) list (most a.answer is.1)
-      (λ front b more e. order (a ∷ front) b more (ap (λ l. a ∷ l) e)) in
-      omega (arith, rest)

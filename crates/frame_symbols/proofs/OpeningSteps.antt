@@ -9,7 +9,8 @@ use Rattle.celt_base.specs.WalkCalls.{CoderCalls, ChooserCalls}
 use Rattle.celt_base.specs.Walks.{Walked}
 use Rattle.celt_base.proofs.WalkSteps.{start, walk, walk_last, end, when_true, when_false, no_walk}
 use Rattle.frame_symbols.specs.declared.opening.PostFilter.{PostFilter}
-use Rattle.frame_symbols.specs.Askings.{asks_number, bit_within, number_within}
+use Rattle.celt_base.specs.WalkScripts.{asks_number, bit_within}
+use Rattle.frame_symbols.specs.Askings.{number_within}
 use Rattle.frame_symbols.specs.Openings.{on_script, filter_script, transient_script, post_filter_of, off, IsPostFilter}
 
 pub comb_is : (octave place gain tapset : ℕ) → octave < 6 → place < 2 ^ (4 + octave) → gain < 8 → tapset < 3

@@ -8,7 +8,6 @@ use Rattle.celt_base.specs.Questions.{Answered, interval_of, after_answer}
 use Rattle.celt_base.specs.Paces.{pace_of}
 use Rattle.celt_base.specs.WalkOrders.{Decided, InOrder, outcome}
 use Rattle.celt_base.specs.Walks.{Event, Adds, answered_in}
-use Rattle.celt_base.proofs.PaceSteps.{interval_longer}
 use Rattle.celt_base.proofs.WalkOrders.{in_order, next_after, outcome_after, one_list}
 use Rattle.celt_base.proofs.WalkSteps.{stands_after, decided_after}
 use Rattle.celt_base.specs.WalkCalls.{ChooserCalls}
@@ -23,15 +22,7 @@ use Rattle.range_coder.specs.declared.reader.Reader.{Reader}
 use Rattle.range_coder.specs.Readers.{StandsFor, Reads, reader_pace, reader_calls}
 use Rattle.range_coder.proofs.Showing.{pace_with}
 use Rattle.range_coder.specs.Reading.{Answers, AnswersFrom}
-use Rattle.range_coder.proofs.Answering.{answer_determined}
-
--- by the list that stood before, and by its interval
-pub answers_from : (frame : List ℕ) (before list : List Answered)
-    → Decided (λ l question answer. Answers frame (interval_of l) question answer) (λ l a. l ++ a ∷ []) before list
-    → AnswersFrom frame (interval_of before) list
-answers_from frame before [] d = tt
-answers_from frame before (a ∷ list) d =
-    (d.0, subst (λ i. AnswersFrom frame i list) (interval_longer before a) (answers_from frame (before ++ a ∷ []) list d.1))
+use Rattle.range_coder.proofs.Answering.{answer_determined, answers_from}
 
 decided_from : (frame : List ℕ) (i : Interval) (list : List Answered) → AnswersFrom frame i list
     → Decided (λ before question answer. Answers frame before question answer) after_answer i list

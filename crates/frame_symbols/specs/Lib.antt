@@ -11,3 +11,4 @@ pub mod Computing
 pub mod Recorders
 pub mod Readings
 pub mod HeldSymbols
+pub mod Batches

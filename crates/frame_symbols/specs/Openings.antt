@@ -5,9 +5,9 @@ use Rattle.celt_base.specs.declared.coder.Place.TheVariants.{Silence, Filter, Oc
 use Rattle.celt_base.specs.declared.kind.Kind.{Kind}
 use Rattle.celt_base.specs.declared.question.Question.TheVariants.{Table, Uniform, Raw}
 use Rattle.celt_base.specs.declared.question.TableId.TheVariants.{Tapset as TapsetTable}
-use Rattle.celt_base.specs.WalkScripts.{Script, Done, and_then, asks_bit}
+use Rattle.celt_base.specs.WalkScripts.{Script, Done, and_then, asks_bit, asks_number, bit_within}
 use Rattle.frame_symbols.specs.declared.opening.PostFilter.{PostFilter}
-use Rattle.frame_symbols.specs.Askings.{asks_number, bit_within, number_within}
+use Rattle.frame_symbols.specs.Askings.{number_within}
 
 abbrev pub silence_script : Script Bool
 silence_script = asks_bit Silence 15

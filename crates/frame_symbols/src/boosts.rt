@@ -7,12 +7,12 @@ ghost use Rattle.frame_symbols.specs.Boosts.{weight_of, may_boost, turn_script, 
 ghost use Rattle.bit_allocation.specs.Requests.{quantum_of, AreBoosts};
 ghost use Rattle.frame_symbols.specs.BoostFacts.{IsBand};
 
-use crate::asking::ask_number_within_eighths;
+use crate::asking::{Budgeted, ask_number_within_eighths};
 use celt_base::coder::{Chooser, Coder, Place};
 use celt_base::kind::Kind;
 use celt_base::question::{Question, TableId};
 use celt_base::walk::ask_bit;
-use celt_tables::{cap, width};
+use celt_tables::{cap, coefficients};
 
 /// A band before its boosts.
 #[derive(Clone, Copy)]
@@ -28,21 +28,6 @@ pub struct Band {
     pub taken: u32,
     /// The frame's size, in eighths of a bit.
     pub eighths: u32,
-}
-
-fn coefficients(kind: Kind, band: u8) -> u32
-    requires { band ≤ 20 }
-    ensures value { result ≡ coefficients_of kind band }
-    ensures some { 1 ≤ result }
-    ensures most { result ≤ 352 }
-{
-    let size = match kind.lm {
-        0 => 1,
-        1 => 2,
-        2 => 4,
-        _ => 8,
-    };
-    u32::from(kind.channels) * (width(u32::from(band)) * size)
 }
 
 fn quantum_of(coefficients: u32) -> u32
@@ -138,11 +123,12 @@ pub fn ask_boosts<C: Coder, H: Chooser>(
     let mut taken = 0;
     let mut first = 6;
     for index in 0..kind.end {
-        let quantum = quantum_of(coefficients(kind, index));
+        let place = u32::from(index);
+        let quantum = quantum_of(coefficients(kind, place));
         let band = Band {
             band: index,
             quantum,
-            cap: cap(kind, u32::from(index)) as u32,
+            cap: cap(kind, place) as u32,
             first,
             taken,
             eighths,
@@ -183,13 +169,11 @@ pub fn ask_trim<C: Coder, H: Chooser>(
     ensures most { result ≤ 10 }
     ensures count { C.calls.count coder.new ≤ C.calls.count coder.old + 1 }
 {
-    ask_number_within_eighths(
-        coder,
-        chooser,
-        Place::Trim,
-        Question::Table(TableId::Trim),
-        48 + boosts.taken,
-        eighths,
-        5,
-    )
+    let number = Budgeted {
+        question: Question::Table(TableId::Trim),
+        cost: 48 + boosts.taken,
+        budget: eighths,
+        other: 5,
+    };
+    ask_number_within_eighths(coder, chooser, Place::Trim, number)
 }

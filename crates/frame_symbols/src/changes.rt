@@ -5,10 +5,9 @@ ghost use Rattle.celt_base.specs.Walks.{Walked};
 ghost use Rattle.celt_base.specs.Paces.{tell_of};
 ghost use Rattle.frame_symbols.specs.Changes.{weight_of, turned, flags_script, any_below, kept_of, differ, select_script, changes_of, changes_by, changes_script};
 
-use crate::asking::ask_bit_within;
 use celt_base::coder::{Chooser, Coder, Place};
 use celt_base::kind::Kind;
-use celt_base::walk::ask_bit;
+use celt_base::walk::{ask_bit, ask_bit_within};
 use celt_tables::tf_of;
 
 #[tactic(auto, unfolding(crate::specs::Changes::weight_of))]

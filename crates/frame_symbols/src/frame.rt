@@ -10,7 +10,7 @@ ghost use Rattle.frame_symbols.specs.Frames.{opening_script, shaping_script, res
 ghost use Rattle.frame_symbols.specs.FrameWalks.{WalkedSound, WalkedEnding, WalkedFrame};
 ghost use Rattle.frame_symbols.specs.Openings.{IsPostFilter};
 
-use crate::asking::{ask_bit_within, ask_number_within};
+use crate::asking::{Budgeted, ask_number_within};
 use crate::boosts::{ask_boosts, ask_trim};
 use crate::changes::ask_changes;
 use crate::fields::{Amounts, Fields, Opening, Settled, Shaping};
@@ -21,7 +21,7 @@ use bit_allocation::allocate;
 use celt_base::coder::{Chooser, Coder, Place};
 use celt_base::kind::Kind;
 use celt_base::question::{Question, TableId};
-use celt_base::walk::{ask_at, ask_bit};
+use celt_base::walk::{ask_at, ask_bit, ask_bit_within};
 
 // Asks for the post-filter, short blocks, and whether the energies are coded without the frame before.
 fn ask_opening<C: Coder, H: Chooser>(
@@ -65,15 +65,13 @@ fn ask_shaping<C: Coder, H: Chooser>(
     ensures count { C.calls.count coder.new ≤ C.calls.count coder.old + 1620 }
 {
     let tf = ask_changes(coder, chooser, kind, transient, 8 * len);
-    let spread = ask_number_within(
-        coder,
-        chooser,
-        Place::Spread,
-        Question::Table(TableId::Spread),
-        4,
-        8 * len,
-        2,
-    );
+    let number = Budgeted {
+        question: Question::Table(TableId::Spread),
+        cost: 4,
+        budget: 8 * len,
+        other: 2,
+    };
+    let spread = ask_number_within(coder, chooser, Place::Spread, number);
     let boosts = ask_boosts(coder, chooser, kind, 64 * len);
     let trim = ask_trim(coder, chooser, &boosts, 64 * len);
     let settings = BandSettings {

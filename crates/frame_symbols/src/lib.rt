@@ -3,6 +3,7 @@
 #![tactic(auto)]
 
 mod asking;
+mod batch;
 mod boosts;
 mod changes;
 mod fields;
@@ -12,8 +13,11 @@ mod opening;
 mod reading;
 mod recorder;
 mod symbols;
+mod writing;
 
+pub use batch::{FrameSlot, read_batch};
 pub use laws::{law_boosts_end, law_computed_reading, law_frame_questions, law_one_reading};
 pub use reading::read_frame;
 pub use recorder::Answer;
 pub use symbols::Symbols;
+pub use writing::write_frame;

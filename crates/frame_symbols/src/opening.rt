@@ -3,10 +3,11 @@ ghost use Rattle.std.specs.Prelude.{◌≡◌, ◌+◌, ◌*◌, ◌^◌, ◌<�
 ghost use Rattle.celt_base.specs.Walks.{Walked};
 ghost use Rattle.frame_symbols.specs.Openings.{on_script, filter_script, transient_script, intra_script, post_filter_of, IsPostFilter};
 
-use crate::asking::{ask_bit_within, ask_number, ask_number_within};
+use crate::asking::{Budgeted, ask_number_within};
 use celt_base::coder::{Chooser, Coder, Place};
 use celt_base::kind::Kind;
 use celt_base::question::{Question, TableId};
+use celt_base::walk::{ask_bit_within, ask_number};
 
 /// The answers of the post-filter. Off is period 15, gain 0, tapset 0.
 #[derive(Clone, Copy, Debug, PartialEq, Eq)]
@@ -64,15 +65,13 @@ fn ask_post_filter<C: Coder, H: Chooser>(coder: &mut C, chooser: &mut H, budget:
         Question::Raw(4 + octave),
     );
     let gain = ask_number(coder, chooser, Place::Gain, Question::Raw(3));
-    let tapset = ask_number_within(
-        coder,
-        chooser,
-        Place::Tapset,
-        Question::Table(TableId::Tapset),
-        2,
+    let number = Budgeted {
+        question: Question::Table(TableId::Tapset),
+        cost: 2,
         budget,
-        0,
-    );
+        other: 0,
+    };
+    let tapset = ask_number_within(coder, chooser, Place::Tapset, number);
     post_filter_of(octave, place, gain, tapset)
 }
 

@@ -5,7 +5,7 @@ use Rattle.std.proofs.lemmas.Int.{to_z_pos}
 use Rattle.std.proofs.lemmas.Nat.{mul-le}
 use Rattle.frame_symbols.proofs.BoostSteps.{boosts_start, boosts_last, taken_last, band_same, weight_within, boosts_after}
 use Rattle.celt_base.proofs.BandEnds.{end_most}
-use Rattle.celt_tables.specs.Tables.{cap_of}
+use Rattle.celt_tables.specs.Tables.{cap_of, coefficients_of}
 use Rattle.bit_allocation.specs.Requests.{quantum_of}
 use Rattle.frame_symbols.proofs.boosts.ask_boosts.Goals as goal
 
@@ -31,8 +31,8 @@ pub loop-index-preserved : goal.loop-index-preserved
 loop-index-preserved g c =
     let i = c.loop-index.invariant in
     let kind = c.args.kind in
-    let cap : c.cap.result ≡ pos (cap_of kind.lm kind.channels c.loop-index.index) = c.cap.ensures ∙ ap (λ n. pos (cap_of kind.lm kind.channels n)) c.from.ensures in
-    let quantum = c.quantum_of-quantum.ensures.value ∙ ap quantum_of c.coefficients.ensures.value in
+    let cap : c.cap.result ≡ pos (cap_of kind.lm kind.channels c.loop-index.index) = c.cap.ensures ∙ ap (λ n. pos (cap_of kind.lm kind.channels n)) c.from-place.ensures in
+    let quantum = c.quantum_of-quantum.ensures.value ∙ ap quantum_of (c.coefficients.ensures.value ∙ ap (coefficients_of kind) c.from-place.ensures) in
     let p : c.ask_turns-turns.result * c.quantum_of-quantum.result ≤ 76 * 352 =
     mul-le c.ask_turns-turns.result c.quantum_of-quantum.result 76 352 c.ask_turns-turns.ensures.most c.quantum_of-quantum.ensures.most in
     boosts_after _ c.ask_turns-turns.result c.quantum_of-quantum.result c.next_first-next.result _ i c.loop-index-test.true (end_most kind)

@@ -1,5 +1,6 @@
 use Rattle.frame_symbols.specs.Frames.{frame_script, first_pace}
-use Rattle.frame_symbols.proofs.CountSteps.{frame_most, list_most}
+use Rattle.celt_base.proofs.CountSteps.{list_most}
+use Rattle.frame_symbols.proofs.CountSteps.{frame_most}
 use Rattle.frame_symbols.proofs.laws.law_frame_questions.Goals as goal
 
 pub returns-clause-most : goal.returns-clause-most
