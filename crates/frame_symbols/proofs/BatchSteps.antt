@@ -1,6 +1,5 @@
 -- A slot more of which the part is inside.
-use Rattle.std.proofs.Common.{◌≡◌, ℕ, zero, suc, ◌+◌, ◌<◌, List, [], ◌∷◌, ◌++◌, length, arith}
-use Rattle.std.specs.Prelude.{slice_index_or}
+use Rattle.std.proofs.Common.{ℕ, zero, suc, List, [], ◌∷◌, ◌++◌, arith}
 use Rattle.frame_symbols.specs.declared.batch.FrameSlot.{FrameSlot}
 use Rattle.frame_symbols.specs.Batches.{IsPart, PartsInside}
 

@@ -1,5 +1,5 @@
 -- How many questions the parts of a frame ask at most.
-use Rattle.std.proofs.Common.{◌≡◌, ℕ, zero, suc, ◌+◌, ◌-◌, ◌*◌, ◌≤◌, List, [], ◌∷◌, length, Bool, true, false, ◌&&◌, nat_eq, nat_le, if◌then◌else◌, refl, ap, subst, arith}
+use Rattle.std.proofs.Common.{◌≡◌, ℕ, zero, suc, ◌+◌, ◌-◌, ◌*◌, List, Bool, true, false, ◌&&◌, nat_eq, nat_le, subst, arith}
 use Rattle.std.specs.Prelude.{ℤ, pos}
 use Rattle.band_energy.specs.EnergyScripts.{coarse_script, fine_script, last_script}
 use Rattle.band_energy.proofs.EnergyLaws.{coarse_most, fine_most, last_most}
@@ -10,10 +10,8 @@ use Rattle.band_plan.proofs.CountLaws.{most_bands}
 use Rattle.celt_base.specs.declared.coder.Place.{Place}
 use Rattle.celt_base.specs.declared.kind.Kind.{Kind}
 use Rattle.celt_base.specs.declared.question.Question.{Question}
-use Rattle.celt_base.specs.Paces.{Pace, paced, tell_of, tell_frac_of}
-use Rattle.celt_base.specs.Questions.{Answered}
+use Rattle.celt_base.specs.Paces.{tell_of, tell_frac_of}
 use Rattle.celt_base.specs.WalkOrders.{IsMost}
-use Rattle.celt_base.specs.WalkScripts.{Script, Done, Look, Ask, Begin, and_then, asks_at, asks_bit, asks_number, bit_within}
 use Rattle.celt_base.proofs.CountSteps.{most_none, with_most, then_most, more_most, look_most, most_if, answer_most, bit_most, number_most, within_most}
 use Rattle.frame_symbols.specs.declared.boosts.Band.{Band}
 use Rattle.frame_symbols.specs.declared.fields.Amounts.{Amounts}

@@ -1,4 +1,4 @@
-use Rattle.std.proofs.Common.{◌≡◌, arith, sym, subst}
+use Rattle.std.proofs.Common.{arith, sym, subst}
 use Rattle.frame_symbols.specs.Batches.{PartsInside}
 use Rattle.frame_symbols.proofs.BatchSteps.{inside_more}
 use Rattle.frame_symbols.proofs.tests.slots_for.Goals as goal

@@ -1,9 +1,7 @@
-use Rattle.std.proofs.Common.{rules, ◌≡◌, [], length, refl, sym, ap, subst, ◌∙◌}
+use Rattle.std.proofs.Common.{rules, length, refl, sym, ap, subst, ◌∙◌}
 use Rattle.celt_base.specs.Paces.{Pace, tell_of}
-use Rattle.frame_symbols.specs.Readings.{IsReading}
 use Rattle.frame_symbols.specs.Recorders.{answered_of}
 use Rattle.range_coder.specs.Writers.{IsFinished}
-use Rattle.range_coder.specs.declared.sender.Finish.TheVariants.{Whole}
 use Rattle.frame_symbols.proofs.WritingSteps.{written_walked, written_reading}
 use Rattle.frame_symbols.proofs.writing.write_frame.Goals as goal
 
