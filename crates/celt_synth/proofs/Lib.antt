@@ -1,0 +1,12 @@
+pub mod AmplitudeLemmas
+pub mod AntiCollapseLemmas
+pub mod BlockLemmas
+pub mod CollapseLemmas
+pub mod ConcealmentLemmas
+pub mod FilterLemmas
+pub mod GridLemmas
+pub mod LeftLemmas
+pub mod RowLemmas
+pub mod SignalLemmas
+pub mod StepLemmas
+pub mod StreamLemmas

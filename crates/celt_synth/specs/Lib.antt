@@ -1,0 +1,15 @@
+pub mod Amplitude
+pub mod AntiCollapse
+pub mod Blocks
+pub mod Collapse
+pub mod Concealment
+pub mod Decoders
+pub mod Filters
+pub mod LeftChannels
+pub mod Rows
+pub mod Shapes
+pub mod Shared
+pub mod Signals
+pub mod States
+pub mod Steps
+pub mod Streams

@@ -1,0 +1,19 @@
+//! The frame step of a CELT decoder (RFC 6716, sections 4.3.5 to 4.3.7): from the symbols and shapes of a frame to the next
+//! state and the samples.
+#![tactic(auto)]
+
+mod amplitude;
+mod anti_collapse;
+mod blocks;
+mod channels;
+mod collapse;
+mod concealment;
+mod decoder;
+mod filters;
+mod laws;
+mod rows;
+mod signals;
+mod streams;
+
+pub use decoder::Decoder;
+pub use laws::{law_left, law_shared};
