@@ -1,0 +1,11 @@
+pub mod Choosing
+pub mod Finishing
+pub mod Folding
+pub mod Framing
+pub mod Going
+pub mod KindFacts
+pub mod Lining
+pub mod PlayingPages
+pub mod Putting
+pub mod Silencing
+pub mod Starting

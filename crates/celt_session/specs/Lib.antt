@@ -1,0 +1,15 @@
+pub mod Choices
+pub mod Decoders
+pub mod Decoding
+pub mod Forms
+pub mod Frames
+pub mod Lines
+pub mod Outcomes
+pub mod PageFunctions
+pub mod PageWorks
+pub mod Pages
+pub mod Samples
+pub mod Sessions
+pub mod Silence
+pub mod Texts
+pub mod Works
