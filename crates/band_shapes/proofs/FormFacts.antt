@@ -15,7 +15,7 @@ use Rattle.band_plan.proofs.PlanSteps.{size_is, end_most}
 use Rattle.band_shapes.specs.Forms.{Form, ReadForm, form_of, form_at, left_before, IsForm}
 use Rattle.band_shapes.specs.Bands.{form_in}
 use Rattle.band_shapes.specs.Channels.{change_of, IsChange}
-use Rattle.band_shapes.specs.Frames.{count_of, layout_of, tf_at, joined, band_made, band_by, band_more, bands_of, CanShape}
+use Rattle.band_shapes.specs.Frames.{count_of, layout_of, tf_at, joined, band_made, band_by, band_more, bands_of, symbols_of, CanShape}
 use Rattle.band_shapes.proofs.BandFacts.{width, tf_is}
 use Rattle.band_shapes.proofs.FormLemmas.{IsFormRead, form_reads}
 
@@ -83,15 +83,15 @@ form_can kind s i few t less =
     subst (λ (z : ReadForm). IsForm (band_of kind s.settings s.intensity i).n z.form) (sym (e ∙ r.read)) r.shaped
 
 -- what is left of the nodes before a band of the frame
-rest_more : (kind : Kind) (s : BandSymbols) (invert : Bool) (seed i : ℕ) → (bands_of kind s invert seed (suc i)).rest ≡ (form_in (layout_of kind s i) (bands_of kind s invert seed i).rest).rest
+rest_more : (kind : Kind) (s : BandSymbols) (invert : Bool) (seed i : ℕ) → (bands_of kind (symbols_of s) invert seed (suc i)).rest ≡ (form_in (layout_of kind (symbols_of s) i) (bands_of kind (symbols_of s) invert seed i).rest).rest
 unfolding bands_of band_more band_by band_made joined
 rest_more kind s invert seed i = refl
 
-form_same : (kind : Kind) (s : BandSymbols) (i : ℕ) (ns : List Node) → form_in (layout_of kind s i) ns ≡ form_at kind s.settings s.intensity s.dual i ns
+form_same : (kind : Kind) (s : BandSymbols) (i : ℕ) (ns : List Node) → form_in (layout_of kind (symbols_of s) i) ns ≡ form_at kind s.settings s.intensity s.dual i ns
 unfolding layout_of count_of band_of
 form_same kind s i ns = refl
 
-rest_none : (kind : Kind) (s : BandSymbols) (invert : Bool) (seed : ℕ) → (bands_of kind s invert seed zero).rest ≡ s.nodes.items
+rest_none : (kind : Kind) (s : BandSymbols) (invert : Bool) (seed : ℕ) → (bands_of kind (symbols_of s) invert seed zero).rest ≡ s.nodes.items
 unfolding bands_of
 rest_none kind s invert seed = refl
 
@@ -103,13 +103,13 @@ left_more : (kind : Kind) (s : BandSymbols) (i : ℕ) → left_before kind s.set
 unfolding left_before
 left_more kind s i = refl
 
-pub rest_is : (kind : Kind) (s : BandSymbols) (invert : Bool) (seed i : ℕ) → (bands_of kind s invert seed i).rest ≡ left_before kind s.settings s.intensity s.dual s.nodes.items i
+pub rest_is : (kind : Kind) (s : BandSymbols) (invert : Bool) (seed i : ℕ) → (bands_of kind (symbols_of s) invert seed i).rest ≡ left_before kind s.settings s.intensity s.dual s.nodes.items i
 rest_is kind s invert seed zero = rest_none kind s invert seed ∙ sym (left_none kind s)
 rest_is kind s invert seed (suc i) =
     rest_more kind s invert seed i
-    ∙ (form_step (bands_of kind s invert seed i).rest (rest_is kind s invert seed i) ∙ sym (left_more kind s i))
+    ∙ (form_step (bands_of kind (symbols_of s) invert seed i).rest (rest_is kind s invert seed i) ∙ sym (left_more kind s i))
   where
-    form_step : (ns : List Node) → ns ≡ left_before kind s.settings s.intensity s.dual s.nodes.items i → (form_in (layout_of kind s i) ns).rest ≡ (form_at kind s.settings s.intensity s.dual i (left_before kind s.settings s.intensity s.dual s.nodes.items i)).rest
+    form_step : (ns : List Node) → ns ≡ left_before kind s.settings s.intensity s.dual s.nodes.items i → (form_in (layout_of kind (symbols_of s) i) ns).rest ≡ (form_at kind s.settings s.intensity s.dual i (left_before kind s.settings s.intensity s.dual s.nodes.items i)).rest
     form_step ns e = ap (λ (z : ReadForm). z.rest) (form_same kind s i ns ∙ ap (form_at kind s.settings s.intensity s.dual i) e)
 
 size_of : (kind : Kind) (s : BandSymbols) (i : ℕ) → (band_of kind s.settings s.intensity i).n ≡ count_of kind i
@@ -117,11 +117,11 @@ unfolding band_of count_of
 size_of kind s i = refl
 
 -- the form at a band, where the walk stands
-pub form_here : (kind : Kind) (s : BandSymbols) (invert : Bool) (seed i : ℕ) (ns : List Node) → HasTrees kind s → i < kind.end → ns ≡ (bands_of kind s invert seed i).rest → IsForm (count_of kind i) (form_in (layout_of kind s i) ns).form
+pub form_here : (kind : Kind) (s : BandSymbols) (invert : Bool) (seed i : ℕ) (ns : List Node) → HasTrees kind s → i < kind.end → ns ≡ (bands_of kind (symbols_of s) invert seed i).rest → IsForm (count_of kind i) (form_in (layout_of kind (symbols_of s) i) ns).form
 form_here kind s invert seed i ns t less e =
-    let q : form_in (layout_of kind s i) ns ≡ form_at kind s.settings s.intensity s.dual i (left_before kind s.settings s.intensity s.dual s.nodes.items i) =
+    let q : form_in (layout_of kind (symbols_of s) i) ns ≡ form_at kind s.settings s.intensity s.dual i (left_before kind s.settings s.intensity s.dual s.nodes.items i) =
     form_same kind s i ns ∙ ap (form_at kind s.settings s.intensity s.dual i) (e ∙ rest_is kind s invert seed i) in
-    subst (λ n. IsForm n (form_in (layout_of kind s i) ns).form) (size_of kind s i)
+    subst (λ n. IsForm n (form_in (layout_of kind (symbols_of s) i) ns).form) (size_of kind s i)
     (subst (λ (z : ReadForm). IsForm (band_of kind s.settings s.intensity i).n z.form) (sym q) (form_can kind s i (end_most kind) t less))
 
 -- what the settings allow at a band
@@ -133,13 +133,13 @@ width_same : (kind : Kind) (i : ℕ) → width i kind.lm ≡ count_of kind i
 unfolding width count_of
 width_same kind i = refl
 
-pub can_shape : (kind : Kind) (s : BandSymbols) (i : ℕ) → HasTrees kind s → i < kind.end → CanShape kind s i
+pub can_shape : (kind : Kind) (s : BandSymbols) (i : ℕ) → HasTrees kind s → i < kind.end → CanShape kind (symbols_of s) i
 can_shape kind s i t less =
     let few = end_most kind in
     let low = kind.sized in
     let is = t.settings.changes i less in
     let r = tf_is i kind.lm s.settings.transient is.select is.flag (omega (arith, few, less)) (omega (arith, low)) t.settings.long in
-    let at = tf_at s i in
+    let at = tf_at (symbols_of s) i in
     record {
       spread = t.settings.spread;
       tf = subst (λ z. unsigned_abs z ≤ 3) (sym is.value) r.most;

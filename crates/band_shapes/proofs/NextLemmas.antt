@@ -2,7 +2,6 @@
 use Rattle.std.proofs.Common.{◌≡◌, ℕ, suc, ◌+◌, ◌^◌, ◌<◌, ◌≤◌, sym, subst, arith, refl, ap, ◌∙◌, List, length, take, drop, Bool, true}
 use Rattle.std.specs.Prelude.{ℤ, unsigned_abs, All, slice_set}
 use Rattle.celt_base.specs.declared.kind.Kind.{Kind}
-use Rattle.band_plan.specs.declared.symbols.BandSymbols.{BandSymbols}
 use Rattle.band_plan.specs.declared.symbols.Node.{Node}
 use Rattle.band_plan.specs.Plans.{frame_blocks}
 use Rattle.band_shapes.specs.declared.bands.Lines.{Lines}
@@ -14,7 +13,7 @@ use Rattle.band_shapes.specs.declared.plans.Plan.{Plan}
 use Rattle.band_shapes.specs.Bands.{pair_shape, form_in}
 use Rattle.band_shapes.specs.Channels.{IsChange}
 use Rattle.band_shapes.specs.Forms.{IsForm}
-use Rattle.band_shapes.specs.Frames.{Sofar, sofar_of, band_more, bands_of, start_of, count_of, layout_of, tf_at, low_of, plan_of, fills_of, source_at, joins, norm_joined, is_rich, CanShape, CanBand, IsBandMade, IsSound}
+use Rattle.band_shapes.specs.Frames.{Symbols, Sofar, sofar_of, band_more, bands_of, start_of, count_of, layout_of, tf_at, low_of, plan_of, fills_of, source_at, joins, norm_joined, is_rich, CanShape, CanBand, IsBandMade, IsSound}
 use Rattle.band_shapes.proofs.FrameLemmas.{IsStep, own_two, step_made, step_sound}
 use Rattle.band_shapes.proofs.PlanLemmas.{start_next, start_most, source_ends, fill_small}
 
@@ -36,30 +35,30 @@ plan_low : (kind : Kind) (e : Layout) (tf : ℤ) (i low : ℕ) (p : Plan) → p 
 unfolding plan_of
 plan_low kind e tf i low p h = ap (λ (z : Plan). z.low) h
 
-pub layout_count : (kind : Kind) (s : BandSymbols) (i : ℕ) (e : Layout) → e ≡ layout_of kind s i → e.count ≡ count_of kind i
+pub layout_count : (kind : Kind) (s : Symbols) (i : ℕ) (e : Layout) → e ≡ layout_of kind s i → e.count ≡ count_of kind i
 unfolding layout_of
 layout_count kind s i e h = ap (λ (z : Layout). z.count) h
 
-pub layout_blocks : (kind : Kind) (s : BandSymbols) (i : ℕ) (e : Layout) → e ≡ layout_of kind s i → e.blocks ≡ frame_blocks kind s.settings.transient
+pub layout_blocks : (kind : Kind) (s : Symbols) (i : ℕ) (e : Layout) → e ≡ layout_of kind s i → e.blocks ≡ frame_blocks kind s.settings.transient
 unfolding layout_of
 layout_blocks kind s i e h = ap (λ (z : Layout). z.blocks) h
 
-layout_change : (kind : Kind) (s : BandSymbols) (i : ℕ) (e : Layout) → e ≡ layout_of kind s i → CanShape kind s i → IsChange e.count e.blocks e.change
+layout_change : (kind : Kind) (s : Symbols) (i : ℕ) (e : Layout) → e ≡ layout_of kind s i → CanShape kind s i → IsChange e.count e.blocks e.change
 unfolding layout_of
 layout_change kind s i e h c = rw h c.change
 
-layout_spread : (kind : Kind) (s : BandSymbols) (i : ℕ) (e : Layout) → e ≡ layout_of kind s i → CanShape kind s i → e.spread ≤ 3
+layout_spread : (kind : Kind) (s : Symbols) (i : ℕ) (e : Layout) → e ≡ layout_of kind s i → CanShape kind s i → e.spread ≤ 3
 unfolding layout_of
 layout_spread kind s i e h c = rw h c.spread
 
-layout_level : (kind : Kind) (s : BandSymbols) (i : ℕ) (e : Layout) → e ≡ layout_of kind s i → e.level ≤ 4
+layout_level : (kind : Kind) (s : Symbols) (i : ℕ) (e : Layout) → e ≡ layout_of kind s i → e.level ≤ 4
 unfolding layout_of
 layout_level kind s i e h = let m = kind.sized in rw h (omega (arith, m))
 
-layout_own : (kind : Kind) (s : BandSymbols) (i : ℕ) (e : Layout) → e ≡ layout_of kind s i → e.own ≡ true → e.two ≡ true
+layout_own : (kind : Kind) (s : Symbols) (i : ℕ) (e : Layout) → e ≡ layout_of kind s i → e.own ≡ true → e.two ≡ true
 layout_own kind s i e h = rw h (own_two kind s i)
 
-pub start_fits : (kind : Kind) (s : BandSymbols) (i : ℕ) (e : Layout) (p : Plan) (low : ℕ) → i ≤ 20 → e ≡ layout_of kind s i → p ≡ plan_of kind e (tf_at s i) i low → p.span.start + p.span.count ≤ 800
+pub start_fits : (kind : Kind) (s : Symbols) (i : ℕ) (e : Layout) (p : Plan) (low : ℕ) → i ≤ 20 → e ≡ layout_of kind s i → p ≡ plan_of kind e (tf_at s i) i low → p.span.start + p.span.count ≤ 800
 start_fits kind s i e p low h ee ep =
     let a = plan_start kind e (tf_at s i) i low p ep in
     let b = plan_count kind e (tf_at s i) i low p ep in
@@ -68,10 +67,10 @@ start_fits kind s i e p low h ee ep =
     let f = start_most kind (suc i) (omega (arith, h)) in
     omega (arith, a, b, c, d, f)
 
-pub before_small : (kind : Kind) (s : BandSymbols) (i : ℕ) (e : Layout) (p : Plan) (low m : ℕ) (xs : List ℤ) → p ≡ plan_of kind e (tf_at s i) i low → All (λ v. unsigned_abs v ≤ m) (take (start_of kind i) xs) → All (λ v. unsigned_abs v ≤ m) (take p.span.start xs)
+pub before_small : (kind : Kind) (s : Symbols) (i : ℕ) (e : Layout) (p : Plan) (low m : ℕ) (xs : List ℤ) → p ≡ plan_of kind e (tf_at s i) i low → All (λ v. unsigned_abs v ≤ m) (take (start_of kind i) xs) → All (λ v. unsigned_abs v ≤ m) (take p.span.start xs)
 before_small kind s i e p low m xs ep h = subst (λ n. All (λ v. unsigned_abs v ≤ m) (take n xs)) (sym (plan_start kind e (tf_at s i) i low p ep)) h
 
-pub can_band : (kind : Kind) (s : BandSymbols) (i : ℕ) (e : Layout) (p : Plan) (old mid : Lines) (w : Walked) (fills : Fills) → i ≤ 20 → CanShape kind s i → e ≡ layout_of kind s i → e.count ≤ 176 → p ≡ plan_of kind e (tf_at s i) i (low_of kind i w.low w.update) → p.low ≤ i
+pub can_band : (kind : Kind) (s : Symbols) (i : ℕ) (e : Layout) (p : Plan) (old mid : Lines) (w : Walked) (fills : Fills) → i ≤ 20 → CanShape kind s i → e ≡ layout_of kind s i → e.count ≤ 176 → p ≡ plan_of kind e (tf_at s i) i (low_of kind i w.low w.update) → p.low ≤ i
     → IsSound kind s i old w → All (λ v. unsigned_abs v ≤ 2 ^ 19) (take p.span.start mid.left_norm) → mid.right_norm ≡ old.right_norm
     → fills ≡ fills_of kind e.blocks p w.left w.right → CanBand e p.span fills mid
 can_band kind s i e p old mid w fills h c ee n ep el d small er ef =
@@ -100,8 +99,8 @@ can_band kind s i e p old mid w fills h c ee n ep el d small er ef =
     }
 
 -- the step, with the nodes and the fills as the code has them
-pub step_here : (kind : Kind) (s : BandSymbols) (invert : Bool) (i low : ℕ) (e : Layout) (p : Plan) (old mid new : Lines) (w v : Walked) (m : MadePair) (fills : Fills) (nodes : List Node) → e ≡ layout_of kind s i → p ≡ plan_of kind e (tf_at s i) i low
-    → nodes ≡ s.nodes.items → fills ≡ fills_of kind e.blocks p w.left w.right
+pub step_here : (kind : Kind) (s : Symbols) (invert : Bool) (i low : ℕ) (e : Layout) (p : Plan) (old mid new : Lines) (w v : Walked) (m : MadePair) (fills : Fills) (nodes : List Node) → e ≡ layout_of kind s i → p ≡ plan_of kind e (tf_at s i) i low
+    → nodes ≡ s.nodes → fills ≡ fills_of kind e.blocks p w.left w.right
     → mid.left ≡ old.left → mid.right ≡ old.right → mid.right_norm ≡ old.right_norm
     → take p.span.start mid.left_norm ≡ norm_joined (joins s i) (take p.span.start old.left_norm) (take p.span.start old.right_norm)
     → All (λ z. unsigned_abs z ≤ 2 ^ 19) (take p.span.start mid.left_norm)
@@ -126,29 +125,29 @@ step_here kind s invert i low e p old mid new w v m fills nodes ee ep en ef el e
       walked = ew;
     }
 
-pub form_as : (kind : Kind) (s : BandSymbols) (i : ℕ) (e : Layout) (at : ℕ) (nodes : List Node) → e ≡ layout_of kind s i → nodes ≡ s.nodes.items → IsForm (count_of kind i) (form_in (layout_of kind s i) (drop at s.nodes.items)).form → IsForm e.count (form_in e (drop at nodes)).form
+pub form_as : (kind : Kind) (s : Symbols) (i : ℕ) (e : Layout) (at : ℕ) (nodes : List Node) → e ≡ layout_of kind s i → nodes ≡ s.nodes → IsForm (count_of kind i) (form_in (layout_of kind s i) (drop at s.nodes)).form → IsForm e.count (form_in e (drop at nodes)).form
 form_as kind s i e at nodes ee en h =
     subst (λ ns. IsForm e.count (form_in e (drop at ns)).form) (sym en)
-    (subst (λ n. IsForm n (form_in e (drop at s.nodes.items)).form) (sym (layout_count kind s i e ee))
-    (subst (λ (z : Layout). IsForm (count_of kind i) (form_in z (drop at s.nodes.items)).form) (sym ee) h))
+    (subst (λ n. IsForm n (form_in e (drop at s.nodes)).form) (sym (layout_count kind s i e ee))
+    (subst (λ (z : Layout). IsForm (count_of kind i) (form_in z (drop at s.nodes)).form) (sym ee) h))
 
-pub made_next : (kind : Kind) (s : BandSymbols) (invert : Bool) (i : ℕ) (e : Layout) (p : Plan) (old mid new : Lines) (w v : Walked) (m : MadePair) → i ≤ 20 → e ≡ layout_of kind s i → p ≡ plan_of kind e (tf_at s i) i (low_of kind i w.low w.update)
+pub made_next : (kind : Kind) (s : Symbols) (invert : Bool) (i : ℕ) (e : Layout) (p : Plan) (old mid new : Lines) (w v : Walked) (m : MadePair) → i ≤ 20 → e ≡ layout_of kind s i → p ≡ plan_of kind e (tf_at s i) i (low_of kind i w.low w.update)
     → IsStep kind s invert i e p old mid new w v m → sofar_of kind s (i + 1) new v ≡ band_more kind s invert i (sofar_of kind s i old w)
 made_next kind s invert i e p old mid new w v m h ee ep t =
     let next : suc i ≡ i + 1 = omega arith in
     subst (λ n. sofar_of kind s n new v ≡ band_more kind s invert i (sofar_of kind s i old w)) next (step_made kind s invert i e p old mid new w v m h ee ep t)
 
-pub sound_next : (kind : Kind) (s : BandSymbols) (invert : Bool) (i : ℕ) (e : Layout) (p : Plan) (old mid new : Lines) (w v : Walked) (m : MadePair) → i ≤ 20 → e ≡ layout_of kind s i → p.low ≤ i → IsSound kind s i old w
+pub sound_next : (kind : Kind) (s : Symbols) (invert : Bool) (i : ℕ) (e : Layout) (p : Plan) (old mid new : Lines) (w v : Walked) (m : MadePair) → i ≤ 20 → e ≡ layout_of kind s i → p.low ≤ i → IsSound kind s i old w
     → IsStep kind s invert i e p old mid new w v m → IsSound kind s (i + 1) new v
 sound_next kind s invert i e p old mid new w v m h ee el d t =
     let next : suc i ≡ i + 1 = omega arith in
     subst (λ n. IsSound kind s n new v) next (step_sound kind s invert i e p old mid new w v m h (layout_blocks kind s i e ee) el d t)
 
-more_suc : (kind : Kind) (s : BandSymbols) (invert : Bool) (seed i : ℕ) → band_more kind s invert i (bands_of kind s invert seed i) ≡ bands_of kind s invert seed (suc i)
+more_suc : (kind : Kind) (s : Symbols) (invert : Bool) (seed i : ℕ) → band_more kind s invert i (bands_of kind s invert seed i) ≡ bands_of kind s invert seed (suc i)
 unfolding bands_of
 more_suc kind s invert seed i = refl
 
-pub more_next : (kind : Kind) (s : BandSymbols) (invert : Bool) (seed i : ℕ) (f : Sofar) → f ≡ bands_of kind s invert seed i → band_more kind s invert i f ≡ bands_of kind s invert seed (i + 1)
+pub more_next : (kind : Kind) (s : Symbols) (invert : Bool) (seed i : ℕ) (f : Sofar) → f ≡ bands_of kind s invert seed i → band_more kind s invert i f ≡ bands_of kind s invert seed (i + 1)
 more_next kind s invert seed i f e =
     let next : suc i ≡ i + 1 = omega arith in
     ap (band_more kind s invert i) e ∙ (more_suc kind s invert seed i ∙ ap (bands_of kind s invert seed) next)
@@ -162,9 +161,9 @@ joined_as a b xs ys e = ap (λ z. norm_joined z xs ys) e
 pub walked_as : (ls rs : List ℕ) (seed at low : ℕ) (a b : Bool) → a ≡ b → walked_by ls rs seed at low a ≡ walked_by ls rs seed at low b
 walked_as ls rs seed at low a b e = ap (walked_by ls rs seed at low) e
 
-walk_rest : (kind : Kind) (s : BandSymbols) (i : ℕ) (l : Lines) (w : Walked) → drop w.at s.nodes.items ≡ (sofar_of kind s i l w).rest
+walk_rest : (kind : Kind) (s : Symbols) (i : ℕ) (l : Lines) (w : Walked) → drop w.at s.nodes ≡ (sofar_of kind s i l w).rest
 unfolding sofar_of
 walk_rest kind s i l w = refl
 
-pub rest_here : (kind : Kind) (s : BandSymbols) (i : ℕ) (l : Lines) (w : Walked) (f : Sofar) → sofar_of kind s i l w ≡ f → drop w.at s.nodes.items ≡ f.rest
+pub rest_here : (kind : Kind) (s : Symbols) (i : ℕ) (l : Lines) (w : Walked) (f : Sofar) → sofar_of kind s i l w ≡ f → drop w.at s.nodes ≡ f.rest
 rest_here kind s i l w f e = walk_rest kind s i l w ∙ ap (λ (z : Sofar). z.rest) e

@@ -7,7 +7,6 @@ use Rattle.std.proofs.Math.Nat.{pow-le-pow_right}
 use Rattle.std.proofs.lemmas.Bool.{le-leb, lt-leb, leb-true, eqb-true, cases_lt, false≢true}
 use Rattle.std.proofs.lemmas.List.Elements.{All-take, All-drop}
 use Rattle.std.proofs.lemmas.Bool.Decides.{nat_tests}
-use Rattle.band_plan.specs.declared.symbols.BandSymbols.{BandSymbols}
 use Rattle.band_plan.specs.Plans.{band_of, is_two}
 use Rattle.tf_change.proofs.OrderLemmas.{holds_below}
 use Rattle.celt_base.specs.declared.kind.Kind.{Kind}
@@ -15,7 +14,7 @@ use Rattle.celt_tables.specs.Tables.{edge_of, width_of}
 use Rattle.band_shapes.specs.declared.node.Layout.{Layout}
 use Rattle.band_shapes.specs.declared.plans.Plan.{Plan}
 use Rattle.band_shapes.specs.declared.plans.Span.{Span}
-use Rattle.band_shapes.specs.Frames.{source_at, start_of, count_of, starts_by, starts_from, last_that, first_that, masks_or, fill_at, fill_of, plan_of, has_source, is_own}
+use Rattle.band_shapes.specs.Frames.{Symbols, source_at, start_of, count_of, starts_by, starts_from, last_that, first_that, masks_or, fill_at, fill_of, plan_of, has_source, is_own}
 use Rattle.band_shapes.proofs.BandFacts.{both_true, one_true, holds_at}
 
 -- the first two of three lists
@@ -214,19 +213,19 @@ source_length p xs h = by_test p.has refl
     by_test false e = inl (omega (arith, ap length (source_empty p xs e)))
 
 -- which bands have two channels coded by themselves
-two_is : (kind : Kind) (s : BandSymbols) (i : ℕ) → is_two (band_of kind s.settings s.intensity i) s.dual kind.channels ≡ (is_own s i || (nat_eq kind.channels 2 && nat_eq (count_of kind i) 1))
+two_is : (kind : Kind) (s : Symbols) (i : ℕ) → is_two (band_of kind s.settings s.intensity i) s.dual kind.channels ≡ (is_own s i || (nat_eq kind.channels 2 && nat_eq (count_of kind i) 1))
 unfolding is_two band_of is_own count_of
 two_is kind s i = refl
 
-pub two_own : (kind : Kind) (s : BandSymbols) (i : ℕ) → is_own s i ≡ true → true ≡ is_two (band_of kind s.settings s.intensity i) s.dual kind.channels
+pub two_own : (kind : Kind) (s : Symbols) (i : ℕ) → is_own s i ≡ true → true ≡ is_two (band_of kind s.settings s.intensity i) s.dual kind.channels
 two_own kind s i h = sym (two_is kind s i ∙ ap (λ b. b || (nat_eq kind.channels 2 && nat_eq (count_of kind i) 1)) h)
 
-pub two_mono : (kind : Kind) (s : BandSymbols) (i : ℕ) → is_own s i ≡ false → kind.channels ≢ 2 → false ≡ is_two (band_of kind s.settings s.intensity i) s.dual kind.channels
+pub two_mono : (kind : Kind) (s : Symbols) (i : ℕ) → is_own s i ≡ false → kind.channels ≢ 2 → false ≡ is_two (band_of kind s.settings s.intensity i) s.dual kind.channels
 two_mono kind s i h n =
     let t : nat_eq kind.channels 2 ≡ false = grind (arith, nat_tests, n) in
     sym (two_is kind s i ∙ (ap (λ b. b || (nat_eq kind.channels 2 && nat_eq (count_of kind i) 1)) h ∙ ap (λ b. b && nat_eq (count_of kind i) 1) t))
 
-pub two_one : (kind : Kind) (s : BandSymbols) (i n : ℕ) → is_own s i ≡ false → kind.channels ≡ 2 → n ≡ count_of kind i → nat_eq n 1 ≡ is_two (band_of kind s.settings s.intensity i) s.dual kind.channels
+pub two_one : (kind : Kind) (s : Symbols) (i n : ℕ) → is_own s i ≡ false → kind.channels ≡ 2 → n ≡ count_of kind i → nat_eq n 1 ≡ is_two (band_of kind s.settings s.intensity i) s.dual kind.channels
 two_one kind s i n h c e =
     let t : nat_eq kind.channels 2 ≡ true = grind (arith, nat_tests, c) in
     ap (λ z. nat_eq z 1) e ∙ sym (two_is kind s i ∙ (ap (λ b. b || (nat_eq kind.channels 2 && nat_eq (count_of kind i) 1)) h ∙ ap (λ b. b && nat_eq (count_of kind i) 1) t))

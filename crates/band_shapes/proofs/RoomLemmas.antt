@@ -5,10 +5,9 @@ use Rattle.std.proofs.lemmas.Nat.{mul-le}
 use Rattle.std.proofs.lemmas.List.Elements.{All-append}
 use Rattle.celt_base.specs.declared.kind.Kind.{Kind}
 use Rattle.celt_tables.specs.Tables.{edge_of}
-use Rattle.band_plan.specs.declared.symbols.BandSymbols.{BandSymbols}
 use Rattle.band_shapes.specs.declared.bands.Lines.{Lines}
 use Rattle.band_shapes.specs.declared.bands.Walked.{Walked}
-use Rattle.band_shapes.specs.Frames.{Line, Sofar, padded, start_of, sofar_of, line_of, bands_of, shapes_of}
+use Rattle.band_shapes.specs.Frames.{Symbols, Line, Sofar, padded, start_of, sofar_of, line_of, bands_of, shapes_of}
 use Rattle.band_shapes.proofs.PairLemmas.{zeros_small}
 use Rattle.band_shapes.proofs.PlanLemmas.{edge_small}
 
@@ -52,34 +51,34 @@ pub end_below : (kind : Kind) (j : ℕ) → j ≤ 21 → start_of kind j ≤ sta
 unfolding start_of
 end_below kind j h = mul-le (edge_of j) (2 ^ kind.lm) 100 (2 ^ kind.lm) (edge_small j h) (omega arith)
 
-left_of : (kind : Kind) (s : BandSymbols) (l : Lines) (w : Walked) → (sofar_of kind s kind.end l w).left ≡ line_of (start_of kind kind.end) l.left l.left_norm w.left
+left_of : (kind : Kind) (s : Symbols) (l : Lines) (w : Walked) → (sofar_of kind s kind.end l w).left ≡ line_of (start_of kind kind.end) l.left l.left_norm w.left
 unfolding sofar_of
 left_of kind s l w = refl
 
-right_of : (kind : Kind) (s : BandSymbols) (l : Lines) (w : Walked) → (sofar_of kind s kind.end l w).right ≡ line_of (start_of kind kind.end) l.right l.right_norm w.right
+right_of : (kind : Kind) (s : Symbols) (l : Lines) (w : Walked) → (sofar_of kind s kind.end l w).right ≡ line_of (start_of kind kind.end) l.right l.right_norm w.right
 unfolding sofar_of
 right_of kind s l w = refl
 
-seed_of : (kind : Kind) (s : BandSymbols) (l : Lines) (w : Walked) → (sofar_of kind s kind.end l w).seed ≡ w.seed
+seed_of : (kind : Kind) (s : Symbols) (l : Lines) (w : Walked) → (sofar_of kind s kind.end l w).seed ≡ w.seed
 unfolding sofar_of
 seed_of kind s l w = refl
 
 -- what the walk leaves, as the definition has it
-pub left_vector : (kind : Kind) (s : BandSymbols) (invert : Bool) (seed : ℕ) (l : Lines) (w : Walked) (n end : ℕ) → sofar_of kind s kind.end l w ≡ bands_of kind s invert seed kind.end → n ≡ start_of kind 21 → end ≡ start_of kind kind.end → padded n (take end l.left) ≡ (shapes_of kind s invert seed).left
+pub left_vector : (kind : Kind) (s : Symbols) (invert : Bool) (seed : ℕ) (l : Lines) (w : Walked) (n end : ℕ) → sofar_of kind s kind.end l w ≡ bands_of kind s invert seed kind.end → n ≡ start_of kind 21 → end ≡ start_of kind kind.end → padded n (take end l.left) ≡ (shapes_of kind s invert seed).left
 unfolding shapes_of
 left_vector kind s invert seed l w n end h en ee =
     ap (λ k. padded k (take end l.left)) (en ∙ size_is kind)
     ∙ (ap (λ k. padded (100 * 2 ^ kind.lm) (take k l.left)) ee
     ∙ ap (λ (z : Line). padded (100 * 2 ^ kind.lm) z.vector) (sym (left_of kind s l w) ∙ ap (λ (z : Sofar). z.left) h))
 
-pub right_vector : (kind : Kind) (s : BandSymbols) (invert : Bool) (seed : ℕ) (l : Lines) (w : Walked) (n end : ℕ) → sofar_of kind s kind.end l w ≡ bands_of kind s invert seed kind.end → n ≡ start_of kind 21 → end ≡ start_of kind kind.end → padded n (take end l.right) ≡ (shapes_of kind s invert seed).right
+pub right_vector : (kind : Kind) (s : Symbols) (invert : Bool) (seed : ℕ) (l : Lines) (w : Walked) (n end : ℕ) → sofar_of kind s kind.end l w ≡ bands_of kind s invert seed kind.end → n ≡ start_of kind 21 → end ≡ start_of kind kind.end → padded n (take end l.right) ≡ (shapes_of kind s invert seed).right
 unfolding shapes_of
 right_vector kind s invert seed l w n end h en ee =
     ap (λ k. padded k (take end l.right)) (en ∙ size_is kind)
     ∙ (ap (λ k. padded (100 * 2 ^ kind.lm) (take k l.right)) ee
     ∙ ap (λ (z : Line). padded (100 * 2 ^ kind.lm) z.vector) (sym (right_of kind s l w) ∙ ap (λ (z : Sofar). z.right) h))
 
-pub both_masks : (kind : Kind) (s : BandSymbols) (invert : Bool) (seed : ℕ) (l : Lines) (w : Walked) (xss : List (List ℕ)) → sofar_of kind s kind.end l w ≡ bands_of kind s invert seed kind.end → length xss ≡ 2
+pub both_masks : (kind : Kind) (s : Symbols) (invert : Bool) (seed : ℕ) (l : Lines) (w : Walked) (xss : List (List ℕ)) → sofar_of kind s kind.end l w ≡ bands_of kind s invert seed kind.end → length xss ≡ 2
     → slice_set (slice_set xss 0 w.left) 1 w.right ≡ (shapes_of kind s invert seed).left_masks ∷ (shapes_of kind s invert seed).right_masks ∷ []
 unfolding shapes_of
 both_masks kind s invert seed l w xss h e =
@@ -87,7 +86,7 @@ both_masks kind s invert seed l w xss h e =
     let b = ap (λ (z : Line). z.masks) (sym (right_of kind s l w) ∙ ap (λ (z : Sofar). z.right) h) in
     pair_set xss w.left w.right e ∙ (ap (λ (z : List ℕ). z ∷ w.right ∷ []) a ∙ ap (λ (z : List ℕ). (shapes_of kind s invert seed).left_masks ∷ z ∷ []) b)
 
-pub last_seed : (kind : Kind) (s : BandSymbols) (invert : Bool) (seed : ℕ) (l : Lines) (w : Walked) → sofar_of kind s kind.end l w ≡ bands_of kind s invert seed kind.end → w.seed ≡ (shapes_of kind s invert seed).seed
+pub last_seed : (kind : Kind) (s : Symbols) (invert : Bool) (seed : ℕ) (l : Lines) (w : Walked) → sofar_of kind s kind.end l w ≡ bands_of kind s invert seed kind.end → w.seed ≡ (shapes_of kind s invert seed).seed
 unfolding shapes_of
 last_seed kind s invert seed l w h = sym (seed_of kind s l w) ∙ ap (λ (z : Sofar). z.seed) h
 

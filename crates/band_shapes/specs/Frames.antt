@@ -5,6 +5,7 @@ use Rattle.std.specs.Int.{int_shr}
 use Rattle.std.specs.Int.RustNames.{bit_or}
 use Rattle.celt_base.specs.declared.kind.Kind.{Kind}
 use Rattle.celt_tables.specs.Tables.{edge_of, width_of}
+use Rattle.band_plan.specs.declared.symbols.BandSettings.{BandSettings}
 use Rattle.band_plan.specs.declared.symbols.BandSymbols.{BandSymbols}
 use Rattle.band_plan.specs.declared.symbols.Node.{Node}
 use Rattle.band_plan.specs.Plans.{band_of, frame_blocks, is_two}
@@ -17,6 +18,18 @@ use Rattle.band_shapes.specs.declared.plans.Plan.{Plan}
 use Rattle.band_shapes.specs.declared.plans.Span.{Span}
 use Rattle.band_shapes.specs.Bands.{Pair, pair_shape, form_in}
 use Rattle.band_shapes.specs.Channels.{change_of, copied, IsChange}
+
+-- what the symbols of a frame's bands say to its shapes: the settings, the band from which intensity stereo begins, whether
+-- the bands below that one are dual, what each band was given, and the nodes of all bands in coding order
+pub record Symbols : Type 0 where
+  pub settings : BandSettings
+  pub intensity : ℕ
+  pub dual : Bool
+  pub amounts : List ℤ
+  pub nodes : List Node
+
+abbrev pub symbols_of : BandSymbols → Symbols
+symbols_of s = record { settings = s.settings; intensity = s.intensity; dual = s.dual; amounts = s.amounts; nodes = s.nodes.items }
 
 -- a channel so far: its vectors and its folded copies one behind the other, and the masks of its bands
 pub record Line : Type 0 where
@@ -40,15 +53,15 @@ start_of kind i = edge_of i * 2 ^ kind.lm
 unfoldable pub count_of : Kind → ℕ → ℕ
 count_of kind i = width_of i * 2 ^ kind.lm
 
-abbrev pub tf_at : BandSymbols → ℕ → ℤ
+abbrev pub tf_at : Symbols → ℕ → ℤ
 tf_at s i = slice_index_or s.settings.tf i (pos 0)
 
 -- Each channel keeps copies of its own in dual bands. In others the right ones are never read, and zeros stand for them.
-unfoldable pub is_own : BandSymbols → ℕ → Bool
+unfoldable pub is_own : Symbols → ℕ → Bool
 is_own s i = s.dual && nat_lt i s.intensity
 
 -- what the channels of a band share
-unfoldable pub layout_of : Kind → BandSymbols → ℕ → Layout
+unfoldable pub layout_of : Kind → Symbols → ℕ → Layout
 layout_of kind s i = record {
   count = count_of kind i;
   level = kind.lm + 1;
@@ -118,7 +131,7 @@ means (x ∷ xs) [] = []
 means (x ∷ xs) (y ∷ ys) = int_shr (x +ℤ y) 1 ∷ means xs ys
 
 -- where dual ends, the left copies become the mean of both
-unfoldable pub joins : BandSymbols → ℕ → Bool
+unfoldable pub joins : Symbols → ℕ → Bool
 joins s i = s.dual && nat_eq i s.intensity
 
 unfoldable pub norm_joined : Bool → List ℤ → List ℤ → List ℤ
@@ -138,10 +151,10 @@ unfoldable pub longer : ℕ → Line → List ℤ → List ℤ → ℕ → Line
 longer i l vector copy mask = record { vector = l.vector ++ vector; norm = l.norm ++ copy; masks = slice_set l.masks i mask }
 
 -- the band with more than a bit for an item is one from which a source may begin anew
-unfoldable pub is_rich : BandSymbols → ℕ → ℕ → Bool
+unfoldable pub is_rich : Symbols → ℕ → ℕ → Bool
 is_rich s i n = int_lt (pos (8 * n)) (slice_index_or s.amounts i (pos 0))
 
-unfoldable pub band_made : BandSymbols → ℕ → Layout → Plan → Pair → List Node → Sofar → Sofar
+unfoldable pub band_made : Symbols → ℕ → Layout → Plan → Pair → List Node → Sofar → Sofar
 band_made s i e p b rest f = record {
   left = longer i f.left b.left (copied b.copy) b.left_mask;
   right = longer i f.right b.right (right_copy e.own e.count b.right) b.right_mask;
@@ -151,14 +164,14 @@ band_made s i e p b rest f = record {
   rest = rest;
 }
 
-unfoldable pub band_by : Kind → BandSymbols → Bool → ℕ → Layout → Plan → Sofar → Sofar
+unfoldable pub band_by : Kind → Symbols → Bool → ℕ → Layout → Plan → Sofar → Sofar
 band_by kind s invert i e p f =
     let r = form_in e f.rest in
     let b = pair_shape e invert (source_at p.span f.left.norm) (source_at p.span f.right.norm) (fills_of kind e.blocks p f.left.masks f.right.masks) r.form f.seed in
     band_made s i e p b r.rest f
 
 -- one band more
-unfoldable pub band_more : Kind → BandSymbols → Bool → ℕ → Sofar → Sofar
+unfoldable pub band_more : Kind → Symbols → Bool → ℕ → Sofar → Sofar
 band_more kind s invert i f =
     let e = layout_of kind s i in
     band_by kind s invert i e (plan_of kind e (tf_at s i) i (low_of kind i f.low f.update)) (joined (joins s i) f)
@@ -167,8 +180,8 @@ abbrev pub empty_line : Line
 empty_line = record { vector = []; norm = []; masks = replicate 21 0 }
 
 -- the bands below i
-unfoldable pub bands_of : Kind → BandSymbols → Bool → ℕ → ℕ → Sofar
-bands_of kind s invert seed zero = record { left = empty_line; right = empty_line; seed = seed; low = 0; update = true; rest = s.nodes.items }
+unfoldable pub bands_of : Kind → Symbols → Bool → ℕ → ℕ → Sofar
+bands_of kind s invert seed zero = record { left = empty_line; right = empty_line; seed = seed; low = 0; update = true; rest = s.nodes }
 bands_of kind s invert seed (suc i) = band_more kind s invert i (bands_of kind s invert seed i)
 
 -- The shapes of a frame: a vector of 100 * 2^lm items and the masks of each channel, and the noise's state behind them.
@@ -183,7 +196,7 @@ pub record Shapes : Type 0 where
 unfoldable pub padded : ℕ → List ℤ → List ℤ
 padded n xs = xs ++ replicate (n - length xs) (pos 0)
 
-unfoldable pub shapes_of : Kind → BandSymbols → Bool → ℕ → Shapes
+unfoldable pub shapes_of : Kind → Symbols → Bool → ℕ → Shapes
 shapes_of kind s invert seed =
     let f = bands_of kind s invert seed kind.end in
     record {
@@ -198,18 +211,18 @@ shapes_of kind s invert seed =
 abbrev pub line_of : ℕ → List ℤ → List ℤ → List ℕ → Line
 line_of n vector norm masks = record { vector = take n vector; norm = take n norm; masks = masks }
 
-unfoldable pub sofar_of : Kind → BandSymbols → ℕ → Lines → Walked → Sofar
+unfoldable pub sofar_of : Kind → Symbols → ℕ → Lines → Walked → Sofar
 sofar_of kind s i l w = record {
   left = line_of (start_of kind i) l.left l.left_norm w.left;
   right = line_of (start_of kind i) l.right l.right_norm w.right;
   seed = w.seed;
   low = w.low;
   update = w.update;
-  rest = drop w.at s.nodes.items;
+  rest = drop w.at s.nodes;
 }
 
 -- the sizes that go on from band to band
-pub record IsSound (kind : Kind) (s : BandSymbols) (i : ℕ) (l : Lines) (w : Walked) : Type 0 where
+pub record IsSound (kind : Kind) (s : Symbols) (i : ℕ) (l : Lines) (w : Walked) : Type 0 where
   pub left : All (λ v. unsigned_abs v < 2 ^ 20) (take (start_of kind i) l.left)
   pub right : All (λ v. unsigned_abs v < 2 ^ 20) (take (start_of kind i) l.right)
   pub left_norm : All (λ v. unsigned_abs v ≤ 2 ^ 19) (take (start_of kind i) l.left_norm)
@@ -217,7 +230,7 @@ pub record IsSound (kind : Kind) (s : BandSymbols) (i : ℕ) (l : Lines) (w : Wa
   pub left_masks : All (λ m. m < 2 ^ frame_blocks kind s.settings.transient) w.left
   pub right_masks : All (λ m. m < 2 ^ frame_blocks kind s.settings.transient) w.right
   pub low : w.low ≤ i
-  pub at : w.at ≤ length s.nodes.items
+  pub at : w.at ≤ length s.nodes
 
 -- what a band in the buffers rests on
 pub record CanBand (e : Layout) (p : Span) (fills : Fills) (l : Lines) : Type 0 where
@@ -251,7 +264,7 @@ pub record IsBandMade (e : Layout) (b : Pair) (p : Span) (old new : Lines) (m : 
   pub right_small : m.right < 2 ^ e.blocks
 
 -- what the settings of a band allow
-pub record CanShape (kind : Kind) (s : BandSymbols) (i : ℕ) : Type 0 where
+pub record CanShape (kind : Kind) (s : Symbols) (i : ℕ) : Type 0 where
   pub spread : s.settings.spread ≤ 3
   pub tf : unsigned_abs (tf_at s i) ≤ 3
   pub change : IsChange (count_of kind i) (frame_blocks kind s.settings.transient) (change_of (count_of kind i) (frame_blocks kind s.settings.transient) (tf_at s i))

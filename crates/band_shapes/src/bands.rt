@@ -5,7 +5,7 @@ ghost use Rattle.band_plan.specs.Shapes.{HasTrees};
 ghost use Rattle.band_shapes.specs.Bands.{pair_shape, form_in};
 ghost use Rattle.band_shapes.specs.Channels.{copied};
 ghost use Rattle.band_shapes.specs.Forms.{IsForm};
-ghost use Rattle.band_shapes.specs.Frames.{source_at, means, norm_joined, right_copy, start_of, count_of, layout_of, tf_at, band_more, bands_of, sofar_of, CanBand, IsBandMade, IsSound, CanShape};
+ghost use Rattle.band_shapes.specs.Frames.{source_at, means, norm_joined, right_copy, start_of, count_of, layout_of, tf_at, band_more, bands_of, sofar_of, CanBand, IsBandMade, IsSound, CanShape, symbols_of};
 
 use crate::copies::copy_shape;
 use crate::node::{Fills, MadePair, Place, Tools};
@@ -183,11 +183,11 @@ fn band(
 /// One band more of the frame.
 fn next_band(lines: &mut Lines, bench: &mut Bench, walked: &mut Walked, frame: &Frame<'_>, i: u32)
     requires band { i ≤ 20 }
-    requires can { CanShape frame.now.kind frame.now.symbols.now i }
-    requires sound { IsSound frame.now.kind frame.now.symbols.now i lines.old walked.old }
-    requires form { IsForm (count_of frame.now.kind i) (form_in (layout_of frame.now.kind frame.now.symbols.now i) (drop walked.old.at frame.now.symbols.now.nodes.items)).form }
-    ensures made { sofar_of frame.now.kind frame.now.symbols.now (i + 1) lines.new walked.new ≡ band_more frame.now.kind frame.now.symbols.now frame.now.invert i (sofar_of frame.now.kind frame.now.symbols.now i lines.old walked.old) }
-    ensures sound { IsSound frame.now.kind frame.now.symbols.now (i + 1) lines.new walked.new }
+    requires can { CanShape frame.now.kind (symbols_of frame.now.symbols.now) i }
+    requires sound { IsSound frame.now.kind (symbols_of frame.now.symbols.now) i lines.old walked.old }
+    requires form { IsForm (count_of frame.now.kind i) (form_in (layout_of frame.now.kind (symbols_of frame.now.symbols.now) i) (drop walked.old.at frame.now.symbols.now.nodes.items)).form }
+    ensures made { sofar_of frame.now.kind (symbols_of frame.now.symbols.now) (i + 1) lines.new walked.new ≡ band_more frame.now.kind (symbols_of frame.now.symbols.now) frame.now.invert i (sofar_of frame.now.kind (symbols_of frame.now.symbols.now) i lines.old walked.old) }
+    ensures sound { IsSound frame.now.kind (symbols_of frame.now.symbols.now) (i + 1) lines.new walked.new }
 {
     let kind = frame.kind;
     let s = frame.symbols;
@@ -226,8 +226,8 @@ fn next_band(lines: &mut Lines, bench: &mut Bench, walked: &mut Walked, frame: &
 /// All bands of the frame.
 pub fn bands(lines: &mut Lines, bench: &mut Bench, frame: &Frame<'_>, seed: u32) -> Walked
     requires { HasTrees frame.now.kind frame.now.symbols.now }
-    ensures made { sofar_of frame.now.kind frame.now.symbols.now frame.now.kind.end lines.new result ≡ bands_of frame.now.kind frame.now.symbols.now frame.now.invert seed frame.now.kind.end }
-    ensures sound { IsSound frame.now.kind frame.now.symbols.now frame.now.kind.end lines.new result }
+    ensures made { sofar_of frame.now.kind (symbols_of frame.now.symbols.now) frame.now.kind.end lines.new result ≡ bands_of frame.now.kind (symbols_of frame.now.symbols.now) frame.now.invert seed frame.now.kind.end }
+    ensures sound { IsSound frame.now.kind (symbols_of frame.now.symbols.now) frame.now.kind.end lines.new result }
 {
     let mut walked = Walked {
         left: [0; 21],

@@ -1,7 +1,7 @@
 //! All bands of a frame, into the room that keeps them.
 ghost use Rattle.std.specs.Prelude.{◌≡◌, ◌+◌, ◌-◌, ◌*◌, ◌^◌, ◌<◌, ◌≤◌, ℤ, pos, unsigned_abs, length, take, All, [], ◌∷◌, vec_capacity};
 ghost use Rattle.band_plan.specs.Shapes.{HasTrees};
-ghost use Rattle.band_shapes.specs.Frames.{padded, shapes_of};
+ghost use Rattle.band_shapes.specs.Frames.{padded, shapes_of, symbols_of};
 ghost use Rattle.band_shapes.specs.Rooms.{vector_of};
 
 use crate::bands::{Frame, bands};
@@ -59,10 +59,10 @@ pub fn shapes<'a>(
     masks: &mut [[u32; 21]; 2],
 )
     requires { HasTrees kind s.now }
-    ensures left { vector_of room.new 0 ≡ (shapes_of kind s.now invert seed.old).left }
-    ensures right { vector_of room.new 1 ≡ (shapes_of kind s.now invert seed.old).right }
-    ensures masks { masks.new ≡ (shapes_of kind s.now invert seed.old).left_masks ∷ (shapes_of kind s.now invert seed.old).right_masks ∷ [] }
-    ensures seed { seed.new ≡ (shapes_of kind s.now invert seed.old).seed }
+    ensures left { vector_of room.new 0 ≡ (shapes_of kind (symbols_of s.now) invert seed.old).left }
+    ensures right { vector_of room.new 1 ≡ (shapes_of kind (symbols_of s.now) invert seed.old).right }
+    ensures masks { masks.new ≡ (shapes_of kind (symbols_of s.now) invert seed.old).left_masks ∷ (shapes_of kind (symbols_of s.now) invert seed.old).right_masks ∷ [] }
+    ensures seed { seed.new ≡ (shapes_of kind (symbols_of s.now) invert seed.old).seed }
     ensures left_size { All (λ v. unsigned_abs v < 2 ^ 20) (vector_of room.new 0) }
     ensures right_size { All (λ v. unsigned_abs v < 2 ^ 20) (vector_of room.new 1) }
 {

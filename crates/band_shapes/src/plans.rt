@@ -1,8 +1,8 @@
 //! Where a band and its source lie, and which of its blocks have a shape to be copied.
-ghost use Rattle.std.specs.Prelude.{◌≡◌, ◌⊎◌, ℕ, ◌+◌, ◌-◌, ◌*◌, ◌/◌, ◌%◌, ◌^◌, ◌<◌, ◌≤◌, ℤ, pos, ◌≤ℤ◌, unsigned_abs, length, take, drop, All, true};
+ghost use Rattle.std.specs.Prelude.{◌≡◌, ◌⊎◌, ℕ, ◌+◌, ◌-◌, ◌*◌, ◌/◌, ◌%◌, ◌^◌, ◌<◌, ◌≤◌, ℤ, pos, ◌≤ℤ◌, unsigned_abs, length, take, drop, All, true, int_lt};
 ghost use Rattle.band_plan.specs.Plans.{band_of, frame_blocks, is_two};
 ghost use Rattle.band_shapes.specs.Channels.{change_of};
-ghost use Rattle.band_shapes.specs.Frames.{source_at, start_of, count_of, starts_by, starts_from, last_that, first_that, masks_or, low_of, has_source, fill_at, fill_of, plan_of, layout_of, tf_at, is_own, joins, is_rich};
+ghost use Rattle.band_shapes.specs.Frames.{source_at, start_of, count_of, starts_by, starts_from, last_that, first_that, masks_or, low_of, has_source, fill_at, fill_of, plan_of, layout_of, tf_at, is_own, joins, is_rich, symbols_of};
 
 use crate::change::{Change, change_of};
 use crate::node::Layout;
@@ -131,7 +131,7 @@ fn has_source(layout: Layout, tf: i32, low: u32) -> bool
 // Whether a band has a source.
 fn source_stands(s: &BandSymbols, layout: Layout, i: u32, low: u32) -> bool
     requires { i ≤ 20 }
-    ensures { result ≡ has_source layout (tf_at s.now i) low }
+    ensures { result ≡ has_source layout (tf_at (symbols_of s.now) i) low }
 {
     has_source(layout, s.settings.tf[i as usize], low)
 }
@@ -177,7 +177,7 @@ pub fn plan_for(
 ) -> Plan
     requires band { i ≤ 20 }
     requires before { before ≤ i }
-    ensures value { result ≡ plan_of kind layout (tf_at s.now i) i (low_of kind i before update) }
+    ensures value { result ≡ plan_of kind layout (tf_at (symbols_of s.now) i) i (low_of kind i before update) }
     ensures low { result.low ≤ i }
     ensures from { result.span.from ≤ 800 }
     ensures count { result.span.count ≡ layout.count }
@@ -209,7 +209,7 @@ pub fn source_of(norm: &[i64], span: Span) -> &[i64]
 // Whether each channel of a band keeps copies of its own.
 #[tactic(auto, unfolding(crate::specs::Frames::is_own))]
 fn is_own(s: &BandSymbols, i: u32) -> bool
-    ensures { result ≡ is_own s.now i }
+    ensures { result ≡ is_own (symbols_of s.now) i }
 {
     if s.dual { i < s.intensity } else { false }
 }
@@ -231,27 +231,34 @@ fn is_two(kind: Kind, s: &BandSymbols, i: u32) -> bool
 /// Whether the copies of both channels are joined before a band.
 #[tactic(auto, unfolding(crate::specs::Frames::joins))]
 pub fn joins(s: &BandSymbols, i: u32) -> bool
-    ensures { result ≡ joins s.now i }
+    ensures { result ≡ joins (symbols_of s.now) i }
 {
     if s.dual { i == s.intensity } else { false }
 }
 
+// Whether an amount is more than a bit for an item.
+fn is_above(count: usize, amount: i32) -> bool
+    requires { count ≤ 176 }
+    ensures { result ≡ int_lt (pos (8 * count)) amount }
+{
+    8 * (count as i32) < amount
+}
+
 /// Whether a band has more than a bit for an item.
-#[tactic(auto, unfolding(crate::specs::Frames::is_rich))]
 pub fn is_rich(s: &BandSymbols, i: u32, count: usize) -> bool
     requires band { i ≤ 20 }
     requires count { count ≤ 176 }
-    ensures { result ≡ is_rich s.now i count }
+    ensures { result ≡ is_rich (symbols_of s.now) i count }
 {
-    8 * (count as i32) < s.amounts[i as usize]
+    is_above(count, s.amounts[i as usize])
 }
 
 // The change of resolution of a band.
 fn change_at(s: &BandSymbols, count: usize, blocks: u32, i: u32) -> Change
     requires band { i ≤ 20 }
     requires blocks { (1 ≤ blocks) × (blocks ≤ 16) }
-    requires tf { unsigned_abs (tf_at s.now i) ≤ 3 }
-    ensures { result ≡ change_of count blocks (tf_at s.now i) }
+    requires tf { unsigned_abs (tf_at (symbols_of s.now) i) ≤ 3 }
+    ensures { result ≡ change_of count blocks (tf_at (symbols_of s.now) i) }
 {
     change_of(count, blocks, s.settings.tf[i as usize])
 }
@@ -260,8 +267,8 @@ fn change_at(s: &BandSymbols, count: usize, blocks: u32, i: u32) -> Change
 #[tactic(auto, unfolding(crate::specs::Frames::layout_of))]
 pub fn layout_for(kind: Kind, s: &BandSymbols, i: u32) -> Layout
     requires band { i ≤ 20 }
-    requires tf { unsigned_abs (tf_at s.now i) ≤ 3 }
-    ensures value { result ≡ layout_of kind s.now i }
+    requires tf { unsigned_abs (tf_at (symbols_of s.now) i) ≤ 3 }
+    ensures value { result ≡ layout_of kind (symbols_of s.now) i }
     ensures count { result.count ≤ 176 }
     ensures blocks { result.blocks ≤ 8 }
 {

@@ -32,7 +32,7 @@ pub returns-then-change-gt1 : goal.returns-then-change-gt1
 returns-then-change-gt1 c =
     let p = subst (λ n. IsMade c.args.wish.blocks (part_shape c.args.tools.now.layout.spread n (read_part c.args.level (drop c.args.place.at c.args.nodes.now)).part c.args.source.now c.args.wish c.args.place.seed) c.part-made.new.x c.part-made.result.mask c.part-made.result.seed) c.requires.turn c.part-made.ensures.made in
     record {
-      made = back_made c.args.blocks (length c.args.x.now) c.args.wish.blocks c.part-made.result.mask c.part-made.result.seed c.args.change _ c.part-made.new.x c.unorder.new.out c.if-change-gt1.true p (c.part-made.auto.x ∙ c.requires.turn) c.unorder.ensures;
+      made = back_made c.args.blocks (length c.args.x.now) c.args.wish.blocks c.part-made.result.mask c.part-made.result.seed c.args.change _ c.part-made.new.x c.unorder.new.out c.if-change-gt1.true p (c.part-made.auto.x ∙ c.requires.turn) c.unorder.ensures.value;
       rest = c.part-made.ensures.rest;
       at = c.part-made.ensures.at;
     }

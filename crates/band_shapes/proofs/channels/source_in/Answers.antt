@@ -28,7 +28,7 @@ pub returns-then-change-gt1 : goal.returns-then-change-gt1
 returns-then-change-gt1 c =
     let e = c.steps_in.ensures ∙ ap (λ z. haar_up c.args.blocks c.args.change.down (haar_up 1 c.args.change.up z)) c.copy_from_slice.ensures.after in
     let s = c.steps_in.auto.x ∙ ap length c.copy_from_slice.ensures.after in
-    source_ordered c.args.blocks c.args.change c.args.source.now c.order.new.out (length c.args.source.now) c.if-change-gt1.true (sym (ap length e) ∙ s) (c.order.ensures ∙ ap (ordered _ _ _) e)
+    source_ordered c.args.blocks c.args.change c.args.source.now c.order.new.out (length c.args.source.now) c.if-change-gt1.true (sym (ap length e) ∙ s) (c.order.ensures.value ∙ ap (ordered _ _ _) e)
 
 pub steps_in-requires-2 : goal.steps_in-requires-2
 steps_in-requires-2 c = record {

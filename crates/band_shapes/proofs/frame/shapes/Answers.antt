@@ -1,6 +1,6 @@
 use Rattle.std.proofs.Common.{◌∙◌, ap, arith}
 use Rattle.band_plan.proofs.PlanSteps.{end_most}
-use Rattle.band_shapes.specs.Frames.{start_of}
+use Rattle.band_shapes.specs.Frames.{symbols_of, start_of}
 use Rattle.band_shapes.proofs.RoomLemmas.{end_below, left_vector, right_vector, both_masks, last_seed, front_small}
 use Rattle.band_shapes.proofs.frame.shapes.Goals as goal
 
@@ -24,16 +24,16 @@ keep-requires-2-clause-end c =
     omega (arith, e, b, d)
 
 pub returns-clause-left : goal.returns-clause-left
-returns-clause-left c = c.keep.ensures.value ∙ left_vector c.args.kind c.args.s.now c.args.invert c.args.seed.now _ _ _ _ c.bands-walked.ensures.made c.start_of-size.ensures.value (c.start_of-end.ensures.value ∙ ap (start_of c.args.kind) c.from.ensures)
+returns-clause-left c = c.keep.ensures.value ∙ left_vector c.args.kind (symbols_of c.args.s.now) c.args.invert c.args.seed.now _ _ _ _ c.bands-walked.ensures.made c.start_of-size.ensures.value (c.start_of-end.ensures.value ∙ ap (start_of c.args.kind) c.from.ensures)
 
 pub returns-clause-right : goal.returns-clause-right
-returns-clause-right c = c.keep-2.ensures.value ∙ right_vector c.args.kind c.args.s.now c.args.invert c.args.seed.now c.bands-walked.new.lines _ _ _ c.bands-walked.ensures.made c.start_of-size.ensures.value (c.start_of-end.ensures.value ∙ ap (start_of c.args.kind) c.from.ensures)
+returns-clause-right c = c.keep-2.ensures.value ∙ right_vector c.args.kind (symbols_of c.args.s.now) c.args.invert c.args.seed.now c.bands-walked.new.lines _ _ _ c.bands-walked.ensures.made c.start_of-size.ensures.value (c.start_of-end.ensures.value ∙ ap (start_of c.args.kind) c.from.ensures)
 
 pub returns-clause-masks : goal.returns-clause-masks
-returns-clause-masks c = both_masks c.args.kind c.args.s.now c.args.invert c.args.seed.now c.bands-walked.new.lines c.bands-walked.result _ c.bands-walked.ensures.made (omega arith)
+returns-clause-masks c = both_masks c.args.kind (symbols_of c.args.s.now) c.args.invert c.args.seed.now c.bands-walked.new.lines c.bands-walked.result _ c.bands-walked.ensures.made (omega arith)
 
 pub returns-clause-seed : goal.returns-clause-seed
-returns-clause-seed c = last_seed c.args.kind c.args.s.now c.args.invert c.args.seed.now c.bands-walked.new.lines c.bands-walked.result c.bands-walked.ensures.made
+returns-clause-seed c = last_seed c.args.kind (symbols_of c.args.s.now) c.args.invert c.args.seed.now c.bands-walked.new.lines c.bands-walked.result c.bands-walked.ensures.made
 
 pub returns-clause-left_size : goal.returns-clause-left_size
 returns-clause-left_size c = front_small c.args.kind _ _ _ _ (c.start_of-end.ensures.value ∙ ap (start_of c.args.kind) c.from.ensures) c.keep.ensures.value c.bands-walked.ensures.sound.left
