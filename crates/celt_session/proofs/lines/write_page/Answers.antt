@@ -28,7 +28,7 @@ write_packet-requires g c =
 pub returns-in-Err-clause-lines : goal.returns-in-Err-clause-lines
 returns-in-Err-clause-lines g c = λ heard is.
     packet_failed range_of c.args.first heard.packets c.loop-i.i c.packet.result.now c.loop-i.number (g.K.Sink.held c.args.output.now) (g.K.Sink.held c.loop-i.output) (g.K.Sink.held c.write_packet.new.output)
-    (given_packet c.args.reader.now heard c.loop-i.i c.packet.result.now is c.packet.ensures) (c.loop-i.invariant.number heard is) (c.loop-i.invariant.goes heard is) c.in-Err.ensures.lines
+    (given_packet c.args.reader.now heard c.loop-i.i c.packet.result.now is c.packet.ensures.is) (c.loop-i.invariant.number heard is) (c.loop-i.invariant.goes heard is) c.in-Err.ensures.lines
 
 pub loop-i-preserved : goal.loop-i-preserved
 loop-i-preserved g c =
@@ -40,11 +40,11 @@ loop-i-preserved g c =
     let kept_more : g.K.Sink.faults c.loop-i.output ≤ g.K.Sink.faults c.write_packet.new.output = e.cause in
     record {
       number = λ heard is.
-          number_more range_of c.args.first heard.packets c.loop-i.i c.packet.result.now c.loop-i.number c.in-Ok.next (given_packet c.args.reader.now heard c.loop-i.i c.packet.result.now is c.packet.ensures)
+          number_more range_of c.args.first heard.packets c.loop-i.i c.packet.result.now c.loop-i.number c.in-Ok.next (given_packet c.args.reader.now heard c.loop-i.i c.packet.result.now is c.packet.ensures.is)
           (i.number heard is) e.lines.0;
       goes = λ heard is.
           packet_more range_of c.args.first heard.packets c.loop-i.i c.packet.result.now c.loop-i.number (g.K.Sink.held c.args.output.now) (g.K.Sink.held c.loop-i.output) (g.K.Sink.held c.write_packet.new.output)
-          (given_packet c.args.reader.now heard c.loop-i.i c.packet.result.now is c.packet.ensures) (i.number heard is) (i.goes heard is) e.lines.1;
+          (given_packet c.args.reader.now heard c.loop-i.i c.packet.result.now is c.packet.ensures.is) (i.number heard is) (i.goes heard is) e.lines.1;
       few = omega arith;
       kept = omega arith;
     }

@@ -6,14 +6,14 @@ use Rattle.celt_session.proofs.silence.is_silent_page.Goals as goal
 
 pub returns-then-not-is_silent_packet : goal.returns-then-not-is_silent_packet
 returns-then-not-is_silent_packet c = λ heard is.
-    sym (packets_fail heard.packets c.loop-i.i c.packet.result.now (given_packet c.args.reader.now heard c.loop-i.i c.packet.result.now is c.packet.ensures)
+    sym (packets_fail heard.packets c.loop-i.i c.packet.result.now (given_packet c.args.reader.now heard c.loop-i.i c.packet.result.now is c.packet.ensures.is)
     (sym c.is_silent_packet.ensures ∙ c.if-not-is_silent_packet.true))
 
 pub loop-i-preserved : goal.loop-i-preserved
 loop-i-preserved c = record {
   silent = λ heard is.
       all_more (λ packet. are_silent (packet_frames packet)) heard.packets c.loop-i.i c.packet.result.now
-      (given_packet c.args.reader.now heard c.loop-i.i c.packet.result.now is c.packet.ensures) (c.loop-i.invariant.silent heard is)
+      (given_packet c.args.reader.now heard c.loop-i.i c.packet.result.now is c.packet.ensures.is) (c.loop-i.invariant.silent heard is)
       (sym c.is_silent_packet.ensures ∙ c.if-not-is_silent_packet.false);
 }
 

@@ -9,7 +9,7 @@ loop-i-init c = record { reached = λ heard is. reach_none c.args.most }
 pub loop-i-preserved : goal.loop-i-preserved
 loop-i-preserved c = record {
   reached = λ heard is.
-      let next = durations-next heard.packets c.loop-i.i c.packet.result.now (given_packet c.args.reader.now heard c.loop-i.i c.packet.result.now is c.packet.ensures) in
+      let next = durations-next heard.packets c.loop-i.i c.packet.result.now (given_packet c.args.reader.now heard c.loop-i.i c.packet.result.now is c.packet.ensures.is) in
       let so_far = c.loop-i.invariant.reached heard is in
       let one = c.packet_duration.ensures.value in
       let most = c.packet_duration.ensures.most in
