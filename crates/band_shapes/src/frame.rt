@@ -39,6 +39,7 @@ fn keep(out: &mut Vec<i64>, line: &mut [i64], end: usize, size: usize)
     requires line { length line.old ≡ 800 }
     requires room { 800 ≤ vec_capacity out.old }
     ensures value { out.new.items ≡ padded size (take end line.old) }
+    ensures count { length out.new.items ≡ size }
     ensures room { 800 ≤ vec_capacity out.new }
 {
     pad(line, end, size);
@@ -63,6 +64,8 @@ pub fn shapes<'a>(
     ensures right { vector_of room.new 1 ≡ (shapes_of kind (symbols_of s.now) invert seed.old).right }
     ensures masks { masks.new ≡ (shapes_of kind (symbols_of s.now) invert seed.old).left_masks ∷ (shapes_of kind (symbols_of s.now) invert seed.old).right_masks ∷ [] }
     ensures seed { seed.new ≡ (shapes_of kind (symbols_of s.now) invert seed.old).seed }
+    ensures left_count { length (vector_of room.new 0) ≡ 100 * 2 ^ kind.lm }
+    ensures right_count { length (vector_of room.new 1) ≡ 100 * 2 ^ kind.lm }
     ensures left_size { All (λ v. unsigned_abs v < 2 ^ 20) (vector_of room.new 0) }
     ensures right_size { All (λ v. unsigned_abs v < 2 ^ 20) (vector_of room.new 1) }
 {

@@ -1,7 +1,7 @@
 use Rattle.std.proofs.Common.{◌∙◌, ap, arith}
 use Rattle.band_plan.proofs.PlanSteps.{end_most}
 use Rattle.band_shapes.specs.Frames.{symbols_of, start_of}
-use Rattle.band_shapes.proofs.RoomLemmas.{end_below, left_vector, right_vector, both_masks, last_seed, front_small}
+use Rattle.band_shapes.proofs.RoomLemmas.{end_below, left_vector, right_vector, both_masks, last_seed, front_small, size_is}
 use Rattle.band_shapes.proofs.frame.shapes.Goals as goal
 
 pub start_of-end-requires : goal.start_of-end-requires
@@ -40,3 +40,9 @@ returns-clause-left_size c = front_small c.args.kind _ _ _ _ (c.start_of-end.ens
 
 pub returns-clause-right_size : goal.returns-clause-right_size
 returns-clause-right_size c = front_small c.args.kind _ _ _ _ (c.start_of-end.ensures.value ∙ ap (start_of c.args.kind) c.from.ensures) c.keep-2.ensures.value c.bands-walked.ensures.sound.right
+
+pub returns-clause-left_count : goal.returns-clause-left_count
+returns-clause-left_count c = c.keep.ensures.count ∙ c.start_of-size.ensures.value ∙ size_is c.args.kind
+
+pub returns-clause-right_count : goal.returns-clause-right_count
+returns-clause-right_count c = c.keep-2.ensures.count ∙ c.start_of-size.ensures.value ∙ size_is c.args.kind
