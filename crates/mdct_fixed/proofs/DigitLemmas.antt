@@ -7,7 +7,7 @@ use Rattle.std.proofs.lemmas.List.{get_or-set_same, get_or-set_other}
 use Rattle.std.proofs.lemmas.List.FromFn.{get_or-range_with_len, length-range_with_len}
 use Rattle.mdct_fixed.specs.declared.complex.Complex.{Complex}
 use Rattle.mdct_fixed.specs.declared.digits.TheConstants.{PARTNERS_60, PARTNERS_120, PARTNERS_240, PARTNERS_480}
-use Rattle.mdct_fixed.specs.Digits.{IsExchanged, traded, behind, sources, emitted}
+use Rattle.mdct_fixed.specs.Exchanges.{IsExchanged, traded, behind, sources, emitted}
 use Rattle.mdct_fixed.specs.Transform.{radix, size, radices_by, radices, reversed}
 
 -- ---- one exchange in a list of sources

@@ -1,4 +1,4 @@
--- Fifths of the circle, and rows of radix 3 and 5.
+-- Fifths and thirds of the circle, and rows of radix 3 and 5.
 use Rattle.std.proofs.Common.{◌≡◌, ℕ, ◌+◌, ◌-◌, ◌*◌, ◌%◌, ◌^◌, ◌<◌, ◌≤◌, refl, sym, subst, arith, ap, ◌∙◌}
 use Rattle.std.specs.Prelude.{ℤ, pos, negsuc, neg_ℤ, ◌+ℤ◌, ◌-ℤ◌, ◌*ℤ◌, unsigned_abs, FitsSigned}
 use Rattle.std.specs.Int.{w64}
@@ -52,6 +52,22 @@ two_fifths_are =
     angle_is _ _ _ _
     (sym (cosine_second 6144 (omega arith) (omega arith) ∙ ap neg_ℤ (quarter_cosine-at 1536 ∙ entry_1536)))
     (sym (sine_second 6144 (omega arith) (omega arith) ∙ quarter_cosine-at 2304 ∙ entry_2304))
+
+-- ---- and of a third
+
+entry_2560 : narrowed (at 2560).x ≡ pos 16384
+unfolding at point_by
+entry_2560 = refl
+
+entry_1280 : narrowed (at 1280).x ≡ pos 28378
+unfolding at point_by
+entry_1280 = refl
+
+pub third_is : ◌≡◌ {A = Angle} (record { cosine = negsuc 16383; sine = pos 28378 }) (angle_at 5120)
+third_is =
+    angle_is _ _ _ _
+    (sym (cosine_second 5120 (omega arith) (omega arith) ∙ ap neg_ℤ (quarter_cosine-at 2560 ∙ entry_2560)))
+    (sym (sine_second 5120 (omega arith) (omega arith) ∙ quarter_cosine-at 1280 ∙ entry_1280))
 
 -- ---- turns forwards and backwards
 
@@ -142,7 +158,7 @@ pub record AreSwapped (y x : Five) : Type 0 where
   pub fourth : x.fourth ≡ swapped y.fourth
   pub fifth : x.fifth ≡ swapped y.fifth
 
-swapped_within : (n : ℕ) (y x : Complex) → x ≡ swapped y → IsWithin n y → IsWithin n x
+pub swapped_within : (n : ℕ) (y x : Complex) → x ≡ swapped y → IsWithin n y → IsWithin n x
 swapped_within n y x e h = subst (IsWithin n) (sym e) (record { re = h.im; im = h.re })
 
 pub five_swapped_within : (n : ℕ) (y x : Five) → AreSwapped y x → AreFiveWithin n y → AreFiveWithin n x
@@ -257,3 +273,28 @@ three_joined m p a old one two three x y z u1 u2 u3 w h e ex ey ez e1 e2 e3 s t 
 
     next : y ≡ g 1
     next = let d : p + m ≡ p + 1 * m = omega arith in ey ∙ ap old d
+
+-- a row whose angles are thirds of the circle
+pub thirds_joined : (m p : ℕ) (old one two three : ℕ → Complex) (x y z u1 u2 u3 : Complex) → 0 < m → x ≡ old p → y ≡ old (p + m) → z ≡ old (p + 2 * m)
+    → u1 ≡ plus (plus x y) z → u2 ≡ plus (plus x (turned y 5120)) (turned z 10240) → u3 ≡ plus (plus x (turned y 10240)) (turned z 5120)
+    → IsPut p u1 old one → IsPut (p + m) u2 one two → IsPut (p + 2 * m) u3 two three → IsRowJoined 3 m p 0 old three
+thirds_joined m p old one two three x y z u1 u2 u3 h ex ey ez e1 e2 e3 s t u =
+    let r1 = put_more 0 m p p f old old one u1 h (omega arith) (of_row u1 0 y z (next ∙ sym (not_turned (g 1))) (ez ∙ sym (not_turned (g 2))) e1) s (put_none m p f old) in
+    let r2 = put_more 1 m p (p + m) f old one two u2 h (omega arith) (of_row u2 1 (turned y 5120) (turned z 10240) (ap (λ v. turned v 5120) next) (ap (λ v. turned v 10240) ez) e2) t r1 in
+    let r3 = put_more 2 m p (p + 2 * m) f old two three u3 h refl (of_row u3 2 (turned y 10240) (turned z 5120) (ap (λ v. turned v 10240) next) (ap (λ v. turned v 5120) ez) e3) u r2 in
+    record { sums = r3.here; others = r3.others }
+  where
+    g : ℕ → Complex
+    g k = old (p + k * m)
+
+    f : ℕ → Complex
+    f q = turned_sum g (0 + 5120 * q) 2
+
+    start : x ≡ g 0
+    start = let d : p ≡ p + 0 * m = omega arith in ex ∙ ap old d
+
+    next : y ≡ g 1
+    next = let d : p + m ≡ p + 1 * m = omega arith in ey ∙ ap old d
+
+    of_row : (v : Complex) (q : ℕ) (a b : Complex) → a ≡ turned (g 1) ((0 + 5120 * q) * 1 % 15360) → b ≡ turned (g 2) ((0 + 5120 * q) * 2 % 15360) → v ≡ plus (plus x a) b → v ≡ f q
+    of_row v q a b ea eb e = e ∙ ap (λ n. plus (plus n a) b) start ∙ sym (three_terms g (0 + 5120 * q) a b (sym ea) (sym eb))

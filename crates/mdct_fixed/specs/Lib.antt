@@ -1,4 +1,5 @@
 pub mod Digits
+pub mod Exchanges
 pub mod Joins
 pub mod Mdct
 pub mod Numbers

@@ -239,6 +239,48 @@ pub fn by_fifths(z: Complex) -> Fifths
     }
 }
 
+/// A number turned by one and two thirds of the circle.
+#[derive(Clone, Copy)]
+pub struct ThirdTurns {
+    /// Turned by one third.
+    pub one: Complex,
+    /// By two.
+    pub two: Complex,
+}
+
+// A third of the circle.
+fn one_third() -> Angle
+    ensures value { result ≡ angle_at 5120 }
+    ensures small { IsSmall result }
+{
+    Angle {
+        cosine: -16_384,
+        sine: 28_378,
+    }
+}
+
+/// `z` turned by thirds of the circle: both from the same products.
+pub fn third_turns(z: Complex) -> ThirdTurns
+    requires { IsWithin (2 ^ 46) z }
+    ensures one { result.one ≡ turned z 5120 }
+    ensures two { result.two ≡ turned z 10240 }
+    ensures one_size { IsWithin (2 ^ 48) result.one }
+    ensures two_size { IsWithin (2 ^ 48) result.two }
+{
+    let re = both_ways(z, one_third());
+    let im = both_ways(swap_parts(z), one_third());
+    ThirdTurns {
+        one: Complex {
+            re: re.ahead,
+            im: im.behind,
+        },
+        two: Complex {
+            re: re.behind,
+            im: im.ahead,
+        },
+    }
+}
+
 /// The parts of `z` exchanged.
 pub fn swap_parts(z: Complex) -> Complex
     ensures { result ≡ swapped z }

@@ -2,7 +2,8 @@
 ghost use Rattle.std.specs.Prelude.{◌≡◌, ℕ, ◌%◌, ◌<◌, ◌≤◌, length, slice_index};
 ghost use Rattle.mdct_fixed.specs.Numbers.{at};
 ghost use Rattle.mdct_fixed.specs.Transform.{radices, reversed};
-ghost use Rattle.mdct_fixed.specs.Digits.{IsLength, IsExchanged, emitted};
+ghost use Rattle.mdct_fixed.specs.Digits.{IsLength};
+ghost use Rattle.mdct_fixed.specs.Exchanges.{IsExchanged, emitted};
 
 use crate::complex::{get, put};
 

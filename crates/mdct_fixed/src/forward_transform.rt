@@ -25,8 +25,8 @@ pub fn forward(values: &[i64], trig: &Trig, out: &mut [i64])
     forward_with(values, trig, &mut re[..half], &mut im[..half], out);
 }
 
-// The same with room for the parts of N/2 complex numbers.
-fn forward_with(values: &[i64], trig: &Trig, re: &mut [i64], im: &mut [i64], out: &mut [i64])
+/// The same with room that is lent, for the parts of N/2 complex numbers, so that none is cleared. What it held is not read.
+pub fn forward_with(values: &[i64], trig: &Trig, re: &mut [i64], im: &mut [i64], out: &mut [i64])
     requires size { IsSize (length out.old) }
     requires re_room { length re.old ≡ length out.old / 2 }
     requires im_room { length im.old ≡ length out.old / 2 }

@@ -23,8 +23,8 @@ pub fn inverse(spectrum: &[i64], trig: &Trig, out: &mut [i64])
     inverse_with(spectrum, trig, &mut re[..half], &mut im[..half], out);
 }
 
-// The same with room for the parts of N/2 complex numbers.
-fn inverse_with(spectrum: &[i64], trig: &Trig, re: &mut [i64], im: &mut [i64], out: &mut [i64])
+/// The same with room that is lent, for the parts of N/2 complex numbers, so that none is cleared. What it held is not read.
+pub fn inverse_with(spectrum: &[i64], trig: &Trig, re: &mut [i64], im: &mut [i64], out: &mut [i64])
     requires size { IsSize (length spectrum.now) }
     requires re_room { length re.old ≡ length spectrum.now / 2 }
     requires im_room { length im.old ≡ length spectrum.now / 2 }

@@ -7,7 +7,7 @@ ghost use Rattle.mdct_fixed.specs.Joins.{IsColumnJoined, AreJoined};
 ghost use Rattle.mdct_fixed.specs.Transform.{radix, joined};
 
 use crate::complex::{angle_of, in_first_quarter};
-use crate::rows::{SixAngles, ThreeAngles, TwoAngles, row_2, row_3, row_4, row_5};
+use crate::rows::{SixAngles, ThreeAngles, TwoAngles, row_2, row_3, row_4, row_5, row_thirds};
 use fixed_math::Trig;
 
 /// Runs of one length that follow each other.
@@ -152,6 +152,24 @@ fn column_3(re: &mut [i64], im: &mut [i64], runs: Runs, c: usize, trig: &Trig)
     }
 }
 
+// Joins the rows of radix 3 that begin at the first item of each run.
+fn first_column_3(re: &mut [i64], im: &mut [i64], runs: Runs)
+    requires one_length { length re.old ≡ length im.old }
+    requires some { 0 < runs.len }
+    requires radix { runs.len % 3 ≡ 0 }
+    requires room { runs.from + runs.count * runs.len ≤ length re.old }
+    requires within { (b q : ℕ) → b < runs.count → q < 3 → IsWithin (2 ^ 46) (at re.old im.old (runs.from + 0 + b * runs.len + q * (runs.len / 3))) }
+    ensures { IsColumnJoined 3 (runs.len / 3) (runs.from + 0) runs.len runs.count 0 (at re.old im.old) (at re.new im.new) }
+{
+    let m = runs.len / 3;
+    let end = runs.from + runs.count * runs.len;
+    let mut p = runs.from;
+    while p < end {
+        row_thirds(re, im, p, m);
+        p += runs.len;
+    }
+}
+
 // Joins runs of radix 3.
 fn columns_3(re: &mut [i64], im: &mut [i64], runs: Runs, trig: &Trig)
     requires one_length { length re.old ≡ length im.old }
@@ -162,7 +180,8 @@ fn columns_3(re: &mut [i64], im: &mut [i64], runs: Runs, trig: &Trig)
     requires within { (i : ℕ) → runs.from ≤ i → i < runs.from + runs.count * runs.len → IsWithin (2 ^ 46) (at re.old im.old i) }
     ensures { AreJoined 3 (runs.len / 3) runs.from runs.count (at re.old im.old) (at re.new im.new) }
 {
-    for c in 0..runs.len / 3 {
+    first_column_3(re, im, runs);
+    for c in 1..runs.len / 3 {
         column_3(re, im, runs, c, trig);
     }
 }

@@ -17,7 +17,7 @@ mod turns;
 mod windowing;
 
 pub use digits::reverse_digits;
-pub use forward_transform::forward;
-pub use inverse_transform::inverse;
+pub use forward_transform::{forward, forward_with};
+pub use inverse_transform::{inverse, inverse_with};
 pub use joins::join_runs;
 pub use laws::{law_fourier, law_growth, law_joins, law_kernel, law_plans};

@@ -3,7 +3,9 @@ ghost use Rattle.std.specs.Prelude.{◌≡◌, ℕ, ◌+◌, ◌*◌, ◌^◌, �
 ghost use Rattle.mdct_fixed.specs.Numbers.{at, plus, spun, turned, swapped, IsWithin, IsSmall};
 ghost use Rattle.mdct_fixed.specs.Rows.{AreFourWithin, AreThreeSmall, AreThreeAngles, AreFourSums, IsAngle, AreTwoSmall, AreTwoAngles, AreSixSmall, AreSixAngles, AreFiveWithin, AreFiveSums, ArePartsWithin, IsRowJoined};
 
-use crate::complex::{Angle, Complex, add, by_fifths, get, put, quarter_turns, swap_parts, turn};
+use crate::complex::{
+    Angle, Complex, add, by_fifths, get, put, quarter_turns, swap_parts, third_turns, turn,
+};
 
 /// The items of a row of radix 4.
 #[derive(Clone, Copy)]
@@ -147,6 +149,24 @@ pub fn row_3(re: &mut [i64], im: &mut [i64], p: usize, m: usize, w: &SixAngles)
     put(re, im, p, first);
     put(re, im, p + m, second);
     put(re, im, p + 2 * m, third);
+}
+
+/// Joins the row of radix 3 at `p` that is first in its run, so that all its angles are thirds of the circle.
+pub fn row_thirds(re: &mut [i64], im: &mut [i64], p: usize, m: usize)
+    requires one_length { length re.old ≡ length im.old }
+    requires apart { 0 < m }
+    requires room { p + 2 * m < length re.old }
+    requires within { (q : ℕ) → q < 3 → IsWithin (2 ^ 46) (at re.old im.old (p + q * m)) }
+    ensures { IsRowJoined 3 m p 0 (at re.old im.old) (at re.new im.new) }
+{
+    let x = get(re, im, p);
+    let y = get(re, im, p + m);
+    let z = get(re, im, p + 2 * m);
+    let second = third_turns(y);
+    let third = third_turns(z);
+    put(re, im, p, add_two(x, y, z));
+    put(re, im, p + m, add_two(x, second.one, third.two));
+    put(re, im, p + 2 * m, add_two(x, second.two, third.one));
 }
 
 /// The items of a row of radix 5.

@@ -4,7 +4,7 @@ ghost use Rattle.fixed_math.specs.Items.{item};
 ghost use Rattle.mdct_fixed.specs.Digits.{IsLength};
 ghost use Rattle.mdct_fixed.specs.Mdct.{IsSize};
 
-use super::{forward, inverse, join_runs, reverse_digits};
+use super::{forward, forward_with, inverse, inverse_with, join_runs, reverse_digits};
 use fixed_math::{Trig, noise};
 
 /// Digests of inverse transforms of 120, 240, 480 and 960 items: of 1, -1, 2^30 and -2^30 alone at the first place, then at
@@ -273,6 +273,24 @@ fn forwards(rt: HostRuntime) {
     assert!(rt; forward_fits(&trig, &mut [0; 360], &mut [7; 240], &FORWARDS[1]));
     assert!(rt; forward_fits(&trig, &mut [0; 600], &mut [7; 480], &FORWARDS[2]));
     assert!(rt; forward_fits(&trig, &mut [0; 1080], &mut [7; 960], &FORWARDS[3]));
+}
+
+// The room holds other numbers at first, and then those of the call before.
+#[test]
+fn transforms_in_lent_room(rt: HostRuntime) {
+    let trig = Trig::new();
+    let mut re = [-9i64; 480];
+    let mut im = [9i64; 480];
+    let mut items = [0i64; 960];
+    let mut out = [7i64; 1080];
+    fill_noise(&mut items, 960, 1, 1_073_741_824);
+    inverse_with(&items, &trig, &mut re, &mut im, &mut out);
+    assert_eq!(rt; digest(&out), INVERSES[3][12]);
+    inverse_with(&items, &trig, &mut re, &mut im, &mut out);
+    assert_eq!(rt; digest(&out), INVERSES[3][12]);
+    fill_noise(&mut out, 960, 3, 536_870_911);
+    forward_with(&out, &trig, &mut re, &mut im, &mut items);
+    assert_eq!(rt; digest(&items), FORWARDS[3][12]);
 }
 
 /// The numbers 0, 1, 2 and so forth.
