@@ -42,6 +42,7 @@ pub struct Settled {
 }
 
 /// What the questions of a frame came to.
+#[derive(Drop)]
 pub struct Fields {
     pub silent: bool,
     pub opening: Opening,
@@ -128,25 +129,4 @@ fn clear_bands(bands: &mut BandSymbols)
     bands.dual = false;
     bands.amounts = [0; 21];
     bands.nodes.clear();
-}
-
-impl Drop for Fields {
-    fn drop(self) {
-        let Fields {
-            silent: _,
-            opening: _,
-            energy: _,
-            allocation: _,
-            bands,
-            collapse: _,
-        } = self;
-        let BandSymbols {
-            settings: _,
-            coded: _,
-            intensity: _,
-            dual: _,
-            amounts: _,
-            nodes: _,
-        } = bands;
-    }
 }
