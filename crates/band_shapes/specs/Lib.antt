@@ -2,6 +2,7 @@ pub mod Bands
 pub mod Channels
 pub mod Forms
 pub mod Frames
+pub mod Lendings
 pub mod Parts
 pub mod Placed
 pub mod Rooms

@@ -1,5 +1,5 @@
 -- The parts of a band as a tree, and how a list of nodes in coding order is read as one.
-use Rattle.std.specs.Prelude.{◌≡◌, ◌⊎◌, ℕ, zero, suc, ◌/◌, ◌%◌, ◌^◌, ◌<◌, ◌≤◌, ℤ, pos, ◌≤ℤ◌, max, false, if◌then◌else◌, List, [], ◌∷◌, ◌++◌, drop}
+use Rattle.std.specs.Prelude.{◌≡◌, ◌⊎◌, ℕ, zero, suc, ◌/◌, ◌%◌, ◌^◌, ◌<◌, ◌≤◌, ℤ, pos, ◌≤ℤ◌, if◌then◌else◌, List, [], ◌∷◌, drop}
 use Rattle.band_plan.specs.declared.symbols.Node.{Node}
 use Rattle.band_plan.specs.declared.symbols.Node.TheVariants as nodes
 use Rattle.band_shapes.specs.declared.node.Cut.{Cut}
@@ -54,12 +54,6 @@ unfoldable pub read_part : ℕ → List Node → Read
 read_part zero ns = read_by not_split (piece_of zero (front ns)) (drop 1 ns)
 read_part (suc level) ns = read_by (read_part level) (piece_of (suc level) (front ns)) (drop 1 ns)
 
--- the tree in coding order
-unfoldable pub nodes_of : Part → List Node
-nodes_of (Leaf k index) = nodes.Leaf k index ∷ []
-nodes_of (Split cut first second) =
-    nodes.Theta cut.theta cut.second_first false ∷ (if cut.second_first then nodes_of second ++ nodes_of first else nodes_of first ++ nodes_of second)
-
 -- an angle that `bitexact_cos` knows, or an end
 abbrev pub IsAngle : ℤ → Type 0
 IsAngle theta = (theta ≡ pos 0) ⊎ ((theta ≡ pos 16384) ⊎ ((pos 64 ≤ℤ theta) × (theta ≤ℤ pos 16320)))
@@ -79,8 +73,3 @@ IsPart n (Split cut first second) = (n % 2 ≡ 0) × IsAngle cut.theta × IsPart
 -- 1, 2, 4, 8 or 16 blocks
 abbrev pub IsBlocks : ℕ → Type 0
 IsBlocks b = (b ≡ 1) ⊎ ((b ≡ 2) ⊎ ((b ≡ 4) ⊎ ((b ≡ 8) ⊎ (b ≡ 16))))
-
--- how many splits stand within one another at most
-unfoldable pub depth : Part → ℕ
-depth (Leaf k index) = 0
-depth (Split cut first second) = suc (max (depth first) (depth second))

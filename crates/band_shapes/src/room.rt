@@ -24,6 +24,8 @@ pub struct ShapeRoom {
 
 impl ShapeRoom {
     ghost use Rattle.std.specs.Prelude.{◌≡◌};
+    ghost use Rattle.std.specs.Borrow.{sem};
+    ghost use Rattle.band_shapes.specs.Lendings.{LendsShape};
     ghost use Rattle.band_shapes.specs.Rooms.{vector_of};
 
     /// Takes the memory for all frames to come.
@@ -52,6 +54,18 @@ impl ShapeRoom {
             self.left.as_slice()
         } else {
             self.right.as_slice()
+        }
+    }
+
+    /// The vectors of a channel, 0 or 1, as `shape` gives them, to be written.
+    pub fn shape_mut(&mut self, channel: u8) -> &mut [i64]
+        ensures* writes_back { sem 𝓛 (LendsShape self.entry channel result) }
+        ensures value { result.now ≡ vector_of self.old channel }
+    {
+        if channel == 0 {
+            self.left.as_mut_slice()
+        } else {
+            self.right.as_mut_slice()
         }
     }
 }
