@@ -6,7 +6,7 @@ use Rattle.std.proofs.lemmas.Bool.Decides.{nat_tests}
 use Rattle.celt_base.specs.declared.kind.Kind.{Kind}
 use Rattle.fixed_math.specs.Items.{item, listed}
 use Rattle.fixed_math.proofs.ItemLemmas.{item-listed}
-use Rattle.celt_synth.specs.AntiCollapse.{band_uncollapsed, seed_behind, both_uncollapsed, all_uncollapsed, left_uncollapsed, right_uncollapsed}
+use Rattle.celt_synth.specs.AntiCollapse.{band_uncollapsed, seed_behind, both_uncollapsed, all_uncollapsed, uncollapsed_if, left_uncollapsed, right_uncollapsed}
 use Rattle.celt_synth.specs.Blocks.{blocks_of}
 use Rattle.celt_synth.specs.Concealment.{noise_shapes, concealed_energies}
 use Rattle.celt_synth.specs.LeftChannels.{AgreeLeft, AgreeShapes}
@@ -15,14 +15,14 @@ use Rattle.celt_synth.specs.Shapes.{Shapes, Shaped, shapes_of}
 use Rattle.celt_synth.specs.Shared.{Heard, silent_energies}
 use Rattle.celt_synth.specs.Signals.{Channel, channel_after, sample_at, stereo_samples}
 use Rattle.celt_synth.specs.States.{State}
-use Rattle.celt_synth.specs.Steps.{Made, no_spectrum, spectrum_in, shapes_in, made_silent, made_sounding, made_of, made_concealed, form_of, state_after, samples_of, step, conceal}
+use Rattle.celt_synth.specs.Steps.{Made, no_spectrum, spectrum_in, grounds_of, shapes_in, made_silent, made_sounding, made_of, made_concealed, form_of, state_after, samples_of, step, conceal}
 use Rattle.celt_synth.specs.Streams.{first_of, second_of}
 use Rattle.celt_synth.specs.declared.anti_collapse.Grounds.{Grounds}
 use Rattle.celt_synth.specs.declared.signals.Form.{Form}
 
 -- the left shapes and the noise's state after anti-collapse do not depend on the right shapes; in a band of two channels
 -- the state behind the right one depends on its mask alone
-record SameLeft (s t : Shapes) : Type 0 where
+pub record SameLeft (s t : Shapes) : Type 0 where
   pub left : s.left ≡ t.left
   pub seed : s.seed ≡ t.seed
 
@@ -42,19 +42,18 @@ unfolding all_uncollapsed
 all_left g zero s t r = r
 all_left g (suc n) s t r = both_left g n (all_uncollapsed g n s) (all_uncollapsed g n t) (all_left g n s t r)
 
-unfoldable grounds_of : Kind → Heard → Shaped → List (List ℤ) → State → Grounds
-grounds_of kind heard x es s = record { kind = kind; pulses = heard.pulses; masks = x.masks; energies = es; older1 = s.older1; older2 = s.older2 }
+pub asked_left : (asks : Bool) (g : Grounds) (s t : Shapes) → SameLeft s t → SameLeft (uncollapsed_if asks g s) (uncollapsed_if asks g t)
+unfolding uncollapsed_if
+asked_left true g s t r = all_left g g.kind.end s t r
+asked_left false g s t r = r
 
 shapes_left : (kind : Kind) (heard : Heard) (x y : Shaped) (es fs : List (List ℤ)) (s t : State) → AgreeShapes x y → es ≡ fs → AgreeLeft s t → (shapes_in kind heard x es s).left ≡ (shapes_in kind heard y fs t).left
-unfolding shapes_in grounds_of
-shapes_left kind heard x y es fs s t e f r = by_test heard.collapse
-  where
-    grounds : grounds_of kind heard x es s ≡ grounds_of kind heard y fs t
-    grounds = λ k. record { kind = kind; pulses = heard.pulses; masks = e.masks_are k; energies = f k; older1 = r.older1_are k; older2 = r.older2_are k }
-
-    by_test : (c : Bool) → (if c then all_uncollapsed (grounds_of kind heard x es s) kind.end x.shapes else x.shapes).left ≡ (if c then all_uncollapsed (grounds_of kind heard y fs t) kind.end y.shapes else y.shapes).left
-    by_test true = ap (λ g. (all_uncollapsed g kind.end x.shapes).left) grounds ∙ (all_left (grounds_of kind heard y fs t) kind.end x.shapes y.shapes (record { left = e.left_are; seed = e.seed_is })).left
-    by_test false = e.left_are
+unfolding shapes_in
+shapes_left kind heard x y es fs s t e f r =
+    let grounds : grounds_of kind heard x es s ≡ grounds_of kind heard y fs t =
+    λ k. record { kind = kind; pulses = heard.pulses; masks = e.masks_are k; energies = f k; older1 = r.older1_are k; older2 = r.older2_are k } in
+    ap (λ g. (uncollapsed_if heard.collapse g x.shapes).left) grounds
+    ∙ (asked_left heard.collapse (grounds_of kind heard y fs t) x.shapes y.shapes (record { left = e.left_are; seed = e.seed_is })).left
 
 -- what a frame comes to, but for its right spectrum
 record AgreeMade (x y : Made) : Type 0 where

@@ -6,6 +6,7 @@ pub mod ConcealmentLemmas
 pub mod FilterLemmas
 pub mod GridLemmas
 pub mod LeftLemmas
+pub mod ReadingLemmas
 pub mod RowLemmas
 pub mod SignalLemmas
 pub mod StepLemmas

@@ -10,17 +10,21 @@ use Rattle.celt_base.specs.declared.state.Setting.{Setting}
 use Rattle.celt_base.specs.States.{IsOff}
 use Rattle.mdct_fixed.specs.Mdct.{IsSize}
 use Rattle.celt_synth.specs.Blocks.{blocks_of}
-use Rattle.celt_synth.specs.Decoders.{state_sounded, samples_sounded, state_ended, IsMade}
+use Rattle.celt_synth.specs.AntiCollapse.{all_uncollapsed, uncollapsed_if}
+use Rattle.celt_synth.specs.Decoders.{state_sounded, samples_sounded, state_ended, IsMade, Hears}
 use Rattle.celt_synth.specs.Concealment.{noise_shapes, concealed_energies}
-use Rattle.celt_synth.specs.Rows.{greater, lowered, energies_after, older1_after, older2_after}
-use Rattle.celt_synth.specs.Shapes.{Shaped}
+use Rattle.celt_synth.specs.Rows.{greater, lowered, silenced, energies_after, older1_after, older2_after}
+use Rattle.celt_synth.specs.Shapes.{Shapes, Shaped, shapes_of}
 use Rattle.celt_synth.specs.Shared.{Heard, shared_of, shared_after, share, silent_energies, energies_in, setting_in}
 use Rattle.celt_synth.specs.Signals.{Channel, channel_after, mono_samples, stereo_samples}
 use Rattle.celt_synth.specs.States.{State, off}
-use Rattle.celt_synth.specs.Steps.{Made, spectrum_in, form_of, state_after, samples_of, made_concealed, made_silent, made_sounding, made_of, step}
+use Rattle.celt_synth.specs.Steps.{Made, no_spectrum, spectrum_in, grounds_of, shapes_in, form_of, state_after, samples_of, made_concealed, made_silent, made_sounding, made_of, step}
 use Rattle.celt_synth.specs.Streams.{middle_of, first_of, second_of}
+use Rattle.celt_synth.specs.declared.anti_collapse.Grounds.{Grounds}
 use Rattle.celt_synth.specs.declared.decoder.Ending.{Ending}
+use Rattle.celt_synth.specs.declared.decoder.Shaping.{Shaping}
 use Rattle.celt_synth.specs.declared.signals.Form.{Form}
+use Rattle.celt_synth.proofs.LeftLemmas.{SameLeft, asked_left}
 
 pub setting_same : (a b : Setting) → a.period ≡ b.period → a.gain ≡ b.gain → a.tapset ≡ b.tapset → a ≡ b
 setting_same a b p g t = λ k. record {
@@ -197,3 +201,50 @@ step_shared stream kind heard shaped gain s = by_test heard.silent
         ≡ shared_after kind (if t then silent_energies kind s.energies else heard.changed (greater kind.channels s.energies)) heard.range heard.range (if t then off else heard.setting) (shared_of s)
     by_test true = refl
     by_test false = refl
+
+-- what a silent frame comes to
+pub silent_made : (kind : Kind) (es mid old : List (List ℤ)) (range : ℕ) (e : Ending) (xs ys : List ℤ) → mid ≡ greater kind.channels old → es ≡ silenced kind.channels mid
+    → xs ≡ no_spectrum kind → ys ≡ no_spectrum kind → e.transient ≡ false → IsOff e.setting → e.range ≡ range → e.seed ≡ range → IsMade kind e es xs ys (made_silent kind range (silent_energies kind old))
+unfolding made_silent silent_energies
+silent_made kind es mid old range e xs ys hm he hx hy ht ho hr hs = record {
+  left_is = hx;
+  right_is = λ two. hy;
+  transient_is = ht;
+  setting_is = off_is e.setting ho;
+  energies_are = he ∙ ap (silenced kind.channels) hm;
+  range_is = hr;
+  seed_is = hs;
+}
+
+-- what a frame comes to whose shapes these are
+pub sounding_made : (kind : Kind) (shaping : Shaping) (heard : Heard) (shaped : Shaped) (s : State) (g : Grounds) (e : Ending) (xs ys us vs left right : List ℤ)
+    → Hears kind shaping xs ys heard shaped
+    → g ≡ record { kind = kind; pulses = shaping.pulses; masks = shaping.masks; energies = s.energies; older1 = s.older1; older2 = s.older2 }
+    → us ≡ (uncollapsed_if shaping.collapse g (shapes_of xs ys shaping.seed)).left → vs ≡ (uncollapsed_if shaping.collapse g (shapes_of xs ys shaping.seed)).right
+    → left ≡ spectrum_in kind s.energies 0 us → (kind.channels ≡ 2 → right ≡ spectrum_in kind s.energies 1 vs)
+    → e.transient ≡ shaping.transient → e.setting ≡ shaping.setting → e.range ≡ shaping.range → e.seed ≡ shaping.range
+    → IsMade kind e s.energies left right (made_sounding kind heard shaped s.energies s)
+unfolding made_sounding shapes_in
+sounding_made kind shaping heard shaped s g e xs ys us vs left right r hg hu hv hl hr t f a b =
+    let same : g ≡ grounds_of kind heard shaped s.energies s =
+    hg ∙ (λ k. record { kind = kind; pulses = r.pulses_are k; masks = r.masks_are k; energies = s.energies; older1 = s.older1; older2 = s.older2 }) in
+    let first : us ≡ (uncollapsed_if heard.collapse (grounds_of kind heard shaped s.energies s) shaped.shapes).left =
+    hu ∙ (λ k. (uncollapsed_if (r.collapse_is k) (same k) (shapes_of xs ys shaping.seed)).left)
+    ∙ (asked_left heard.collapse (grounds_of kind heard shaped s.energies s) (shapes_of xs ys shaping.seed) shaped.shapes (record { left = r.left_is; seed = r.seed_is })).left in
+    record {
+      left_is = hl ∙ ap (spectrum_in kind s.energies 0) first;
+      right_is = λ two. hr two ∙ ap (spectrum_in kind s.energies 1) (hv ∙ (λ k. (uncollapsed_if (r.collapse_is k) (same k) (shapes_of (r.left_is k) (r.right_is two k) (r.seed_is k))).right));
+      transient_is = t ∙ r.transient_is;
+      setting_is = f ∙ r.setting_is;
+      energies_are = refl;
+      range_is = a ∙ r.range_is;
+      seed_is = b ∙ r.range_is;
+    }
+
+pub asked : (g : Grounds) (s : Shapes) → all_uncollapsed g g.kind.end s ≡ uncollapsed_if true g s
+unfolding uncollapsed_if
+asked g s = refl
+
+pub not_asked : (g : Grounds) (s : Shapes) → s ≡ uncollapsed_if false g s
+unfolding uncollapsed_if
+not_asked g s = refl

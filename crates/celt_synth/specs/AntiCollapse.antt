@@ -1,5 +1,5 @@
 -- Anti-collapse over a frame (RFC 6716, 4.3.5): band by band, the channels inside each.
-use Rattle.std.specs.Prelude.{◌≡◌, ℕ, zero, suc, ◌+◌, ◌*◌, ◌^◌, ◌<◌, ◌≤ℤ◌, ◌<ℤ◌, nat_eq, if◌then◌else◌, ℤ, pos, unsigned_abs, List, [], ◌++◌, take, drop, get_or}
+use Rattle.std.specs.Prelude.{◌≡◌, ℕ, zero, suc, ◌+◌, ◌*◌, ◌^◌, ◌<◌, ◌≤ℤ◌, ◌<ℤ◌, nat_eq, Bool, if◌then◌else◌, ℤ, pos, unsigned_abs, List, [], ◌++◌, take, drop, get_or}
 use Rattle.celt_base.specs.Energies.{AreEnergies}
 use Rattle.celt_tables.specs.Tables.{edge_of, width_of}
 use Rattle.celt_synth.specs.Blocks.{blocks_of}
@@ -46,6 +46,10 @@ both_uncollapsed g b s =
 unfoldable pub all_uncollapsed : Grounds → ℕ → Shapes → Shapes
 all_uncollapsed g zero s = s
 all_uncollapsed g (suc n) s = both_uncollapsed g n (all_uncollapsed g n s)
+
+-- the shapes of a frame that asks for it, or does not
+unfoldable pub uncollapsed_if : Bool → Grounds → Shapes → Shapes
+uncollapsed_if asks g s = if asks then all_uncollapsed g g.kind.end s else s
 
 -- amounts of a frame, and energies in their range
 pub record AreGrounds (g : Grounds) : Type 0 where

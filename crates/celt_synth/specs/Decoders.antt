@@ -5,11 +5,14 @@ use Rattle.celt_base.specs.declared.state.Setting.{Setting}
 use Rattle.celt_base.specs.Energies.{AreEnergies}
 use Rattle.celt_synth.specs.Rows.{energies_after, older1_after, older2_after}
 use Rattle.celt_synth.specs.Signals.{channel_after, mono_samples, stereo_samples}
+use Rattle.celt_synth.specs.Shapes.{Shaped}
+use Rattle.celt_synth.specs.Shared.{Heard}
 use Rattle.celt_synth.specs.States.{State}
 use Rattle.celt_synth.specs.Steps.{Made}
 use Rattle.celt_synth.specs.Streams.{first_of, second_of}
 use Rattle.celt_synth.specs.declared.signals.Form.{Form}
 use Rattle.celt_synth.specs.declared.decoder.Ending.{Ending}
+use Rattle.celt_synth.specs.declared.decoder.Shaping.{Shaping}
 
 -- the channels of its stream, whether it inverts phases, and its state
 pub record Decoder : Type 0 where
@@ -70,3 +73,15 @@ pub record IsMade (kind : Kind) (e : Ending) (energies : List (List ℤ)) (xs ys
   pub energies_are : energies ≡ made.energies
   pub range_is : e.range ≡ made.range
   pub seed_is : e.seed ≡ made.seed
+
+-- what was read of a frame that sounds, and its shapes; in mono the right ones are not heard
+pub record Hears (kind : Kind) (shaping : Shaping) (xs ys : List ℤ) (heard : Heard) (shaped : Shaped) : Type 0 where
+  pub transient_is : shaping.transient ≡ heard.transient
+  pub collapse_is : shaping.collapse ≡ heard.collapse
+  pub setting_is : shaping.setting ≡ heard.setting
+  pub range_is : shaping.range ≡ heard.range
+  pub pulses_are : shaping.pulses ≡ heard.pulses
+  pub masks_are : shaping.masks ≡ shaped.masks
+  pub seed_is : shaping.seed ≡ shaped.shapes.seed
+  pub left_is : xs ≡ shaped.shapes.left
+  pub right_is : kind.channels ≡ 2 → ys ≡ shaped.shapes.right

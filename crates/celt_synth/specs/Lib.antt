@@ -6,6 +6,7 @@ pub mod Concealment
 pub mod Decoders
 pub mod Filters
 pub mod LeftChannels
+pub mod Readings
 pub mod Rows
 pub mod Shapes
 pub mod Shared

@@ -3,7 +3,7 @@ use Rattle.std.specs.Prelude.{ℕ, ◌*◌, nat_eq, Bool, false, if◌then◌els
 use Rattle.celt_base.specs.declared.kind.Kind.{Kind}
 use Rattle.celt_base.specs.declared.state.Setting.{Setting}
 use Rattle.celt_synth.specs.Amplitude.{spectrum_of}
-use Rattle.celt_synth.specs.AntiCollapse.{all_uncollapsed}
+use Rattle.celt_synth.specs.AntiCollapse.{uncollapsed_if}
 use Rattle.celt_synth.specs.Blocks.{blocks_of}
 use Rattle.celt_synth.specs.Concealment.{noise_shapes, concealed_energies}
 use Rattle.celt_synth.specs.Rows.{greater, older1_after, older2_after}
@@ -12,6 +12,7 @@ use Rattle.celt_synth.specs.Shared.{SharedState, Heard, shared_of, shared_after,
 use Rattle.celt_synth.specs.Signals.{channel_after, mono_samples, stereo_samples}
 use Rattle.celt_synth.specs.States.{State, off}
 use Rattle.celt_synth.specs.Streams.{first_of, second_of}
+use Rattle.celt_synth.specs.declared.anti_collapse.Grounds.{Grounds}
 use Rattle.celt_synth.specs.declared.signals.Form.{Form}
 
 -- What a frame comes to before it sounds: the spectra of its channels, whether it is a transient, the setting of its
@@ -33,11 +34,11 @@ abbrev pub spectrum_in : Kind → List (List ℤ) → ℕ → List ℤ → List 
 spectrum_in kind es c xs = spectrum_of (blocks_of kind) kind.end (get_or es c []) xs
 
 -- the shapes of a frame of these energies, after anti-collapse where the frame asks for it
+abbrev pub grounds_of : Kind → Heard → Shaped → List (List ℤ) → State → Grounds
+grounds_of kind heard shaped es s = record { kind = kind; pulses = heard.pulses; masks = shaped.masks; energies = es; older1 = s.older1; older2 = s.older2 }
+
 unfoldable pub shapes_in : Kind → Heard → Shaped → List (List ℤ) → State → Shapes
-shapes_in kind heard shaped es s =
-    if heard.collapse
-    then all_uncollapsed (record { kind = kind; pulses = heard.pulses; masks = shaped.masks; energies = es; older1 = s.older1; older2 = s.older2 }) kind.end shaped.shapes
-    else shaped.shapes
+shapes_in kind heard shaped es s = uncollapsed_if heard.collapse (grounds_of kind heard shaped es s) shaped.shapes
 
 -- a frame of these energies, whose answers make these shapes: the next seed is its range
 unfoldable pub made_sounding : Kind → Heard → Shaped → List (List ℤ) → State → Made

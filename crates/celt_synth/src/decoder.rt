@@ -2,24 +2,29 @@
 ghost use Rattle.std.specs.Prelude.{◌≡◌, ◌*◌, ◌^◌, ◌≤◌, ◌<◌, nat_eq, if◌then◌else◌, pos, replicate, unsigned_abs, length, All};
 ghost use Rattle.celt_base.specs.Energies.{AreEnergies};
 ghost use Rattle.mdct_fixed.specs.Mdct.{IsSize};
+ghost use Rattle.celt_synth.specs.AntiCollapse.{uncollapsed_if, AreGrounds};
 ghost use Rattle.celt_synth.specs.Blocks.{blocks_of};
 ghost use Rattle.celt_synth.specs.Concealment.{noise_shapes};
 ghost use Rattle.celt_synth.specs.Rows.{floor};
+ghost use Rattle.celt_synth.specs.Shapes.{shapes_of};
 ghost use Rattle.celt_synth.specs.Signals.{channel_after, mono_samples, stereo_samples};
 ghost use Rattle.celt_synth.specs.Steps.{spectrum_in};
 
 use crate::amplitude::amplify;
-use crate::anti_collapse::blocks;
+use crate::anti_collapse::{self, Grounds, blocks};
 use crate::channels::{ChannelBuffer, Tables};
 use crate::concealment::fill_frame;
 use crate::filters::Output;
-use crate::rows::{FLOOR, keep_rows, lower, take_greater};
+use crate::rows::{FLOOR, keep_rows, lower, silence, take_greater};
 use crate::signals::Form;
 use crate::streams::{to_mono, to_stereo};
+use band_energy::apply;
+use band_shapes::{ShapeRoom, shapes};
 use celt_base::kind::Kind;
 use celt_base::state::{Setting, Shared};
 use celt_base::status::OutOfMemory;
 use fixed_math::{Exp, Trig};
+use frame_symbols::Symbols;
 use std::alloc::Global;
 use std::marker::Model;
 
@@ -34,6 +39,25 @@ pub struct Ending {
     pub range: u32,
     /// The next seed of the noise.
     pub seed: u32,
+}
+
+/// What was read of a frame that sounds, but for its energies and the vectors of its shapes.
+#[derive(Clone, Copy)]
+pub struct Shaping {
+    /// Whether it is a transient.
+    pub transient: bool,
+    /// Whether blocks without a shape are filled.
+    pub collapse: bool,
+    /// The setting of its post-filter.
+    pub setting: Setting,
+    /// The range of its reading.
+    pub range: u32,
+    /// The noise's state behind its shapes.
+    pub seed: u32,
+    /// For each band, the eighths of a bit of its shape.
+    pub pulses: [i32; 21],
+    /// For each channel and band a bit for each block, which is 0 where the block has no shape.
+    pub masks: [[u32; 21]; 2],
 }
 
 /// How a frame sounds.
@@ -66,7 +90,13 @@ pub struct Decoder {
     now: Setting,
     buffers: Buffers,
     tables: Tables,
+    room: ShapeRoom,
 }
+
+// The amounts of the bands are 21.
+fn whole_amounts(amounts: &[i32; 21])
+    ensures { length amounts.now ≡ 21 }
+{}
 
 // The energies before the first frame.
 fn no_energies() -> [[i64; 21]; 2]
@@ -144,6 +174,39 @@ fn noise_spectra(
     amplify_channel(left_shapes, energies, 0, kind, exp, left);
     amplify_channel(right_shapes, energies, 1, kind, exp, right);
     state
+}
+
+// The spectrum of the second channel of a frame that has one.
+fn amplify_second(shapes: &[i64], energies: &[[i64; 21]; 2], kind: Kind, exp: &Exp, out: &mut [i64])
+    requires energies { AreEnergies energies.now }
+    requires length { length shapes.now ≡ 100 * blocks_of kind }
+    requires items { All (λ v. unsigned_abs v < 2 ^ 20) shapes.now }
+    requires room { length out.old ≡ 120 * blocks_of kind }
+    requires old_sizes { All (λ v. unsigned_abs v ≤ 2 ^ 30) out.old }
+    ensures value { kind.channels ≡ 2 → out.new ≡ spectrum_in kind energies.now 1 shapes.now }
+    ensures sizes { All (λ v. unsigned_abs v ≤ 2 ^ 30) out.new }
+{
+    if kind.channels == 2 {
+        amplify_channel(shapes, energies, 1, kind, exp, out);
+    }
+}
+
+// Fills blocks without a shape where the frame asks for it.
+fn fill_if(asks: bool, left: &mut [i64], right: &mut [i64], exp: &Exp, grounds: &Grounds, seed: u32)
+    requires grounds { AreGrounds grounds.now }
+    requires left_length { length left.old ≡ 100 * blocks_of grounds.now.kind }
+    requires right_length { length right.old ≡ 100 * blocks_of grounds.now.kind }
+    requires left_items { All (λ v. unsigned_abs v < 2 ^ 20) left.old }
+    requires right_items { All (λ v. unsigned_abs v < 2 ^ 20) right.old }
+    ensures left { left.new ≡ (uncollapsed_if asks grounds.now (shapes_of left.old right.old seed)).left }
+    ensures right { right.new ≡ (uncollapsed_if asks grounds.now (shapes_of left.old right.old seed)).right }
+    ensures left_items { All (λ v. unsigned_abs v < 2 ^ 20) left.new }
+    ensures right_items { All (λ v. unsigned_abs v < 2 ^ 20) right.new }
+{
+    if asks {
+        let mut state = seed;
+        anti_collapse::fill_frame(left, right, exp, grounds, &mut state);
+    }
 }
 
 // Sounds a frame in a stream of two channels.
@@ -232,12 +295,18 @@ impl Model for Decoder {
 }
 
 impl Decoder {
-    ghost use Rattle.std.specs.Prelude.{◌≡◌, ◌*◌, ◌^◌, ◌≤◌, ◌<◌, unsigned_abs, length, All, IfOk};
+    ghost use Rattle.std.specs.Prelude.{◌≡◌, ◌*◌, ◌^◌, ◌≤◌, ◌<◌, ◌≤ℤ◌, ◌<ℤ◌, ℕ, pos, get_or, Option, unsigned_abs, length, All, IfOk};
     ghost use Rattle.mdct_fixed.specs.Mdct.{IsSize};
+    ghost use Rattle.band_plan.specs.Shapes.{HasTrees};
+    ghost use Rattle.frame_symbols.specs.Frames.{Sound};
+    ghost use Rattle.frame_symbols.specs.Held.{HoldsFrame};
     ghost use Rattle.celt_synth.specs.Blocks.{blocks_of};
-    ghost use Rattle.celt_synth.specs.Decoders.{with_state, state_sounded, samples_sounded, state_ended, IsMade};
+    ghost use Rattle.celt_synth.specs.Decoders.{with_state, state_sounded, samples_sounded, state_ended, IsMade, Hears};
+    ghost use Rattle.celt_synth.specs.Readings.{heard_of, shaped_of, IsShaped};
+    ghost use Rattle.celt_synth.specs.Shapes.{Shaped};
+    ghost use Rattle.celt_synth.specs.Shared.{Heard, silent_energies};
     ghost use Rattle.celt_synth.specs.States.{State, start};
-    ghost use Rattle.celt_synth.specs.Steps.{Made, state_after, samples_of, conceal};
+    ghost use Rattle.celt_synth.specs.Steps.{Made, made_silent, made_sounding, state_after, samples_of, step, conceal};
 
     /// A decoder of a stream of one or two channels, before its first frame. It inverts the phase of right channels
     /// where a frame asks for it, unless `invert` is false.
@@ -250,6 +319,9 @@ impl Decoder {
             return Err(OutOfMemory);
         };
         let Ok(right) = ChannelBuffer::new(alloc) else {
+            return Err(OutOfMemory);
+        };
+        let Ok(room) = ShapeRoom::new(alloc) else {
             return Err(OutOfMemory);
         };
         Ok(Decoder {
@@ -267,6 +339,7 @@ impl Decoder {
                 trig: Trig::new(),
                 exp: Exp::new(),
             },
+            room,
         })
     }
 
@@ -302,6 +375,69 @@ impl Decoder {
         }
     }
 
+    /// The frame step of a frame that was read: writes 120 << lm samples for each channel of the stream, in turn. `s`
+    /// holds the symbols of a frame of this kind; `gain` is the header's output gain, in units of 1/256 dB.
+    pub fn frame(&mut self, kind: Kind, s: &Symbols, gain: i32, out: &mut [i16])
+        requires held { (value : Option Sound) × HoldsFrame kind s.now.fields value }
+        requires gain { unsigned_abs gain ≤ 32768 }
+        requires out { length out.old ≡ 120 * blocks_of kind * self.old.channels }
+        ensures state { (value : Option Sound) → HoldsFrame kind s.now.fields value → self.new ≡ with_state self.old (step self.old.channels kind (heard_of kind s.now.range value) (shaped_of kind value self.old.invert) gain self.old.state).state }
+        ensures samples { (value : Option Sound) → HoldsFrame kind s.now.fields value → out.new ≡ (step self.old.channels kind (heard_of kind s.now.range value) (shaped_of kind value self.old.invert) gain self.old.state).samples }
+    {
+        if s.silent() {
+            return self.rest(kind, s.range(), gain, out);
+        }
+        let mut left = [0i64; 800];
+        let mut right = [0i64; 800];
+        let (left, _) = left.split_at_mut(100 * blocks(kind));
+        let (right, _) = right.split_at_mut(100 * blocks(kind));
+        let shaping = self.shape(kind, s, left, right);
+        take_greater(&mut self.energies, kind);
+        apply(
+            &mut self.energies,
+            kind,
+            s.intra(),
+            s.allocation(),
+            s.energy(),
+        );
+        self.sound_shapes(kind, &shaping, left, right, gain, out);
+    }
+
+    // Makes the shapes of a frame that is not silent. The state stays.
+    fn shape(&mut self, kind: Kind, s: &Symbols, left: &mut [i64], right: &mut [i64]) -> Shaping
+        requires trees { HasTrees kind s.now.fields.bands }
+        requires left { length left.old ≡ 100 * blocks_of kind }
+        requires right { length right.old ≡ 100 * blocks_of kind }
+        ensures same { self.new ≡ self.old }
+        ensures shaped { IsShaped kind s.now.fields s.now.range self.old.invert self.old.state.seed result left.new right.new }
+        ensures left_items { All (λ v. unsigned_abs v < 2 ^ 20) left.new }
+        ensures right_items { All (λ v. unsigned_abs v < 2 ^ 20) right.new }
+    {
+        whole_amounts(&s.bands().amounts);
+        let mut seed = self.seed;
+        let mut masks = [[0u32; 21]; 2];
+        shapes(
+            s.bands(),
+            kind,
+            &self.tables.trig,
+            &mut seed,
+            self.invert,
+            &mut self.room,
+            &mut masks,
+        );
+        left.copy_from_slice(self.room.shape(0));
+        right.copy_from_slice(self.room.shape(1));
+        Shaping {
+            transient: s.transient(),
+            collapse: s.collapse(),
+            setting: s.setting(),
+            range: s.range(),
+            seed,
+            pulses: s.allocation().pulses,
+            masks,
+        }
+    }
+
     /// Sounds the frame step of a frame of 0 or 1 bytes: writes 120 << lm samples for each channel of the stream, in
     /// turn. `gain` is the header's output gain.
     pub fn conceal(&mut self, kind: Kind, gain: i32, out: &mut [i16])
@@ -332,6 +468,97 @@ impl Decoder {
             seed,
         };
         self.finish(kind, ending, left, right, gain, out);
+    }
+
+    // Sounds a silent frame.
+    fn rest(&mut self, kind: Kind, range: u32, gain: i32, out: &mut [i16])
+        requires gain { unsigned_abs gain ≤ 32768 }
+        requires out { length out.old ≡ 120 * blocks_of kind * self.old.channels }
+        ensures state { self.new ≡ with_state self.old (state_after self.old.channels kind (made_silent kind range (silent_energies kind self.old.state.energies)) self.old.state) }
+        ensures samples { out.new ≡ samples_of self.old.channels kind gain (made_silent kind range (silent_energies kind self.old.state.energies)) self.old.state }
+    {
+        let count = 120 * blocks(kind);
+        let mut left = [0i64; 960];
+        let mut right = [0i64; 960];
+        let (left, _) = left.split_at_mut(count);
+        let (right, _) = right.split_at_mut(count);
+        left.fill(0);
+        right.fill(0);
+        take_greater(&mut self.energies, kind);
+        silence(&mut self.energies, kind);
+        let ending = Ending {
+            transient: false,
+            setting: Setting::off(),
+            range,
+            seed: range,
+        };
+        self.finish(kind, ending, left, right, gain, out);
+    }
+
+    // Sounds the shapes of a frame whose energies stand already.
+    fn sound_shapes(
+        &mut self,
+        kind: Kind,
+        shaping: &Shaping,
+        left: &mut [i64],
+        right: &mut [i64],
+        gain: i32,
+        out: &mut [i16],
+    )
+        requires least { (b : ℕ) → b < kind.end → pos 0 ≤ℤ get_or shaping.now.pulses b (pos 0) }
+        requires most { (b : ℕ) → b < kind.end → get_or shaping.now.pulses b (pos 0) <ℤ pos (2 ^ 20) }
+        requires left { length left.old ≡ 100 * blocks_of kind }
+        requires right { length right.old ≡ 100 * blocks_of kind }
+        requires left_items { All (λ v. unsigned_abs v < 2 ^ 20) left.old }
+        requires right_items { All (λ v. unsigned_abs v < 2 ^ 20) right.old }
+        requires gain { unsigned_abs gain ≤ 32768 }
+        requires out { length out.old ≡ 120 * blocks_of kind * self.old.channels }
+        ensures state { (heard : Heard) (shaped : Shaped) → Hears kind shaping.now left.old right.old heard shaped → self.new ≡ with_state self.old (state_after self.old.channels kind (made_sounding kind heard shaped self.old.state.energies self.old.state) self.old.state) }
+        ensures samples { (heard : Heard) (shaped : Shaped) → Hears kind shaping.now left.old right.old heard shaped → out.new ≡ samples_of self.old.channels kind gain (made_sounding kind heard shaped self.old.state.energies self.old.state) self.old.state }
+    {
+        let grounds = Grounds {
+            kind,
+            pulses: shaping.pulses,
+            masks: shaping.masks,
+            energies: self.energies,
+            older1: self.older1,
+            older2: self.older2,
+        };
+        fill_if(
+            shaping.collapse,
+            left,
+            right,
+            &self.tables.exp,
+            &grounds,
+            shaping.seed,
+        );
+        let count = 120 * blocks(kind);
+        let mut left_spectrum = [0i64; 960];
+        let mut right_spectrum = [0i64; 960];
+        let (left_spectrum, _) = left_spectrum.split_at_mut(count);
+        let (right_spectrum, _) = right_spectrum.split_at_mut(count);
+        amplify_channel(
+            left,
+            &self.energies,
+            0,
+            kind,
+            &self.tables.exp,
+            left_spectrum,
+        );
+        amplify_second(
+            right,
+            &self.energies,
+            kind,
+            &self.tables.exp,
+            right_spectrum,
+        );
+        let ending = Ending {
+            transient: shaping.transient,
+            setting: shaping.setting,
+            range: shaping.range,
+            seed: shaping.range,
+        };
+        self.finish(kind, ending, left_spectrum, right_spectrum, gain, out);
     }
 
     // Sounds the spectra of a frame whose energies stand already, and ends the frame.

@@ -1,0 +1,80 @@
+use Rattle.std.proofs.Common.{◌≡◌, ◌∙◌, ap, sym, subst, false, true, get_or, pos, w32, FitsSigned, arith, List, ℤ}
+use Rattle.std.specs.Prelude.{◌<ℤ◌}
+use Rattle.std.proofs.lemmas.Int.{to_z-of_z, fits_signed_from_abs}
+use Rattle.band_energy.specs.EnergyValues.{energies_of}
+use Rattle.celt_synth.specs.Decoders.{with_state}
+use Rattle.celt_synth.specs.Readings.{heard_of, shaped_of}
+use Rattle.celt_synth.specs.Rows.{greater}
+use Rattle.celt_synth.specs.Shared.{silent_energies}
+use Rattle.celt_synth.specs.Steps.{made_silent, made_sounding, shapes_in, state_after, samples_of}
+use Rattle.celt_synth.proofs.ReadingLemmas.{suits_held, hears_held, changed_held, not_silent, step_silent, step_sounding, pulses_most}
+use Rattle.celt_synth.proofs.decoder.Decoder.frame.Goals as goal
+
+pub returns-then-silent-clause-state : goal.returns-then-silent-clause-state
+returns-then-silent-clause-state c = λ value h.
+    let d = c.args.self.now in
+    let kind = c.args.kind in
+    let f = c.args.s.now.fields in
+    let e : f.silent ≡ true = sym c.silent.ensures ∙ c.if-silent.true in
+    c.rest.ensures.state
+    ∙ ap (λ n. with_state d (state_after d.channels kind (made_silent kind n (silent_energies kind d.state.energies)) d.state)) c.range.ensures
+    ∙ ap (λ p. with_state d p.state) (step_silent d.channels kind f c.args.s.now.range value (shaped_of kind value d.invert) c.args.gain d.state h e)
+
+pub returns-then-silent-clause-samples : goal.returns-then-silent-clause-samples
+returns-then-silent-clause-samples c = λ value h.
+    let d = c.args.self.now in
+    let kind = c.args.kind in
+    let f = c.args.s.now.fields in
+    let fg : FitsSigned w32 c.args.gain = fits_signed_from_abs w32 _ (let g = c.requires.gain in omega (arith, g)) in
+    let e : f.silent ≡ true = sym c.silent.ensures ∙ c.if-silent.true in
+    let r : c.rest.new.out ≡ samples_of d.channels kind c.args.gain (made_silent kind c.range.result (silent_energies kind d.state.energies)) d.state = simp to_z-of_z at c.rest.ensures.samples in
+    r ∙ ap (λ n. samples_of d.channels kind c.args.gain (made_silent kind n (silent_energies kind d.state.energies)) d.state) c.range.ensures
+    ∙ ap (λ p. p.samples) (step_silent d.channels kind f c.args.s.now.range value (shaped_of kind value d.invert) c.args.gain d.state h e)
+
+pub sound_shapes-requires-clause-most : goal.sound_shapes-requires-clause-most
+sound_shapes-requires-clause-most c = λ b l.
+    let kind = c.args.kind in
+    let f = c.args.s.now.fields in
+    let e : f.silent ≡ false = sym c.silent.ensures ∙ c.if-silent.false in
+    let suits = suits_held kind f c.requires.held.0 c.requires.held.1 e in
+    subst (λ xs. get_or xs b (pos 0) <ℤ pos 1048576) (sym c.shape-shaping.ensures.shaped.pulses_are) (pulses_most kind f.allocation suits.allocation b l)
+
+pub returns-clause-state : goal.returns-clause-state
+unfolding state_after made_sounding shapes_in
+returns-clause-state c = λ value h.
+    let d = c.args.self.now in
+    let kind = c.args.kind in
+    let f = c.args.s.now.fields in
+    let range = c.args.s.now.range in
+    let e : f.silent ≡ false = sym c.silent.ensures ∙ c.if-silent.false in
+    let v = c.self.view_is ∙ c.shape-shaping.ensures.same in
+    let heard = heard_of kind range value in
+    let shaped = shaped_of kind value d.invert d.state.seed in
+    let hears = hears_held kind f range d.invert d.state.seed c.shape-shaping.result c.shape-shaping.new.left c.shape-shaping.new.right value c.shape-shaping.ensures.shaped h e in
+    let g : c.take_greater.new.energies ≡ greater kind.channels d.state.energies = c.take_greater.ensures.value ∙ ap (λ x. greater kind.channels x.state.energies) v in
+    let es : c.apply.new.energies ≡ heard.changed (greater kind.channels d.state.energies) =
+    c.apply.ensures.value ∙ (λ k. energies_of kind (c.intra.ensures k) (c.allocation.ensures k) (c.energy.ensures k) (g k)) ∙ changed_held kind f range value (greater kind.channels d.state.energies) h e in
+    c.sound_shapes.ensures.state heard shaped hears
+    ∙ (λ k. with_state (v k) (state_after (v k).channels kind (made_sounding kind heard shaped c.apply.new.energies (v k).state) (v k).state))
+    ∙ ap (λ p. with_state d p.state) (step_sounding d.channels kind heard (shaped_of kind value d.invert) c.args.gain d.state c.apply.new.energies (not_silent kind f range value h e) es)
+
+pub returns-clause-samples : goal.returns-clause-samples
+unfolding samples_of made_sounding shapes_in
+returns-clause-samples c = λ value h.
+    let d = c.args.self.now in
+    let kind = c.args.kind in
+    let f = c.args.s.now.fields in
+    let range = c.args.s.now.range in
+    let fg : FitsSigned w32 c.args.gain = fits_signed_from_abs w32 _ (let n = c.requires.gain in omega (arith, n)) in
+    let e : f.silent ≡ false = sym c.silent.ensures ∙ c.if-silent.false in
+    let v = c.self.view_is ∙ c.shape-shaping.ensures.same in
+    let heard = heard_of kind range value in
+    let shaped = shaped_of kind value d.invert d.state.seed in
+    let hears = hears_held kind f range d.invert d.state.seed c.shape-shaping.result c.shape-shaping.new.left c.shape-shaping.new.right value c.shape-shaping.ensures.shaped h e in
+    let g : c.take_greater.new.energies ≡ greater kind.channels d.state.energies = c.take_greater.ensures.value ∙ ap (λ x. greater kind.channels x.state.energies) v in
+    let es : c.apply.new.energies ≡ heard.changed (greater kind.channels d.state.energies) =
+    c.apply.ensures.value ∙ (λ k. energies_of kind (c.intra.ensures k) (c.allocation.ensures k) (c.energy.ensures k) (g k)) ∙ changed_held kind f range value (greater kind.channels d.state.energies) h e in
+    let r = simp to_z-of_z at (c.sound_shapes.ensures.samples heard shaped hears) in
+    r
+    ∙ (λ k. samples_of (v k).channels kind c.args.gain (made_sounding kind heard shaped c.apply.new.energies (v k).state) (v k).state)
+    ∙ ap (λ p. p.samples) (step_sounding d.channels kind heard (shaped_of kind value d.invert) c.args.gain d.state c.apply.new.energies (not_silent kind f range value h e) es)
