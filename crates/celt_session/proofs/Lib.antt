@@ -1,4 +1,6 @@
 pub mod Choosing
+pub mod Encoded
+pub mod EncodedPages
 pub mod Finishing
 pub mod Folding
 pub mod Framing
@@ -8,4 +10,9 @@ pub mod Lining
 pub mod PlayingPages
 pub mod Putting
 pub mod Silencing
+pub mod SilentFrame
 pub mod Starting
+pub mod WaveLemmas
+pub mod WholeInput
+pub mod WholeReads
+pub mod ZeroSamples
