@@ -1,4 +1,5 @@
 pub mod Choosing
+pub mod Cutting
 pub mod Encoded
 pub mod EncodedPages
 pub mod Finishing
@@ -7,10 +8,11 @@ pub mod Framing
 pub mod Going
 pub mod KindFacts
 pub mod Lining
+pub mod Played
 pub mod PlayingPages
 pub mod Putting
-pub mod Silencing
 pub mod SilentFrame
+pub mod Sounding
 pub mod Starting
 pub mod WaveLemmas
 pub mod WholeInput
