@@ -13,7 +13,7 @@ use Rattle.celt_base.specs.Outside.{AppendsFront}
 use Rattle.celt_base.proofs.Causes.{then_front, longer_front}
 use Rattle.opus_stream.specs.Acceptance.{is_end_name, end_by}
 use Rattle.celt_session.specs.PageFunctions.{PageFunction, said, running, full, added_by, fault_of, lasting, fault_now, end_fault}
-use Rattle.celt_session.specs.Outcomes.{meaning, ended_status, cut_status, status_by, wanted, Answers, Writes, AddsTaken}
+use Rattle.celt_session.specs.Outcomes.{meaning, ended_status, cut_status_by, cut_status, status_by, wanted, Answers, Writes, AddsTaken}
 use Rattle.celt_session.proofs.Starting.{no_pages}
 use Rattle.celt_session.proofs.Folding.{none-said, running-front, running-is, full-is, lasting_is, lasts, fault_stays}
 
@@ -43,7 +43,7 @@ refused_by : (b : Bool) (o : Option Fault) (fault : Fault) → lasting o ≡ Som
 refused_by b o fault h = by b (lasting_is o fault h) where
   by : (b : Bool) → (o ≡ Some fault) × (is_end_name fault.name ≡ false) → status_by is_end_name b o ≡ statuses.Refused fault
   by false l = ap ended_status l.0
-  by true l = ap (cut_status is_end_name) l.0 ∙ ap (λ t. if t then statuses.InputTooLong else statuses.Refused fault) l.1
+  by true l = ap (cut_status is_end_name) l.0 ∙ ap (λ t. cut_status_by t fault) l.1
 
 pub wanted_fault : (f : PageFunction) (start : f.State) (limit : ℕ) (now zs : List ℕ) (fault : Fault) → length now ≤ limit → fault_now f start now ≡ Some fault
     → wanted (meaning f start) limit (now ++ zs) ≡ statuses.Refused fault
@@ -54,7 +54,7 @@ wanted_fault f start limit now zs fault few h =
 long_by : (o : Option Fault) → lasting o ≡ None → cut_status is_end_name o ≡ statuses.InputTooLong
 long_by None h = refl
 long_by (Some fault) h = by (is_end_name fault.name) h where
-  by : (b : Bool) → (if b then None else Some fault) ≡ None → (if b then statuses.InputTooLong else statuses.Refused fault) ≡ statuses.InputTooLong
+  by : (b : Bool) → (if b then None else Some fault) ≡ None → cut_status_by b fault ≡ statuses.InputTooLong
   by true e = refl
   by false e = cc
 

@@ -1,11 +1,11 @@
 -- Text that is put into a slice, part by part.
-use Rattle.std.proofs.Common.{◌≡◌, ℕ, zero, suc, ◌+◌, ◌-◌, ◌/◌, ◌%◌, ◌^◌, ◌<◌, ◌≤◌, List, [], ◌∷◌, ◌++◌, length, take, refl, sym, ◌∙◌, ap, subst, arith, append_assoc, append-nil, length-append}
+use Rattle.std.proofs.Common.{◌≡◌, ℕ, zero, suc, ◌+◌, ◌-◌, ◌/◌, ◌%◌, ◌^◌, ◌<◌, ◌≤◌, List, [], ◌∷◌, ◌++◌, length, take, drop, refl, sym, ◌∙◌, ap, subst, arith, append_assoc, append-nil, length-append}
 use Rattle.std.specs.Fmt.{decimal}
 use Rattle.std.proofs.Math.ListN.{set}
 use Rattle.std.proofs.Math.Numerals.{add-one}
-use Rattle.std.proofs.Math.Seq.{take-suc-set}
+use Rattle.std.proofs.Math.Seq.{take-suc-set, take-append_seam}
 use Rattle.std.proofs.lemmas.Fmt.{decimal_digit, decimal_step, length-decimal-le}
-use Rattle.std.proofs.lemmas.List.{length-set}
+use Rattle.std.proofs.lemmas.List.{length-set, length-take-le, length-drop}
 use Rattle.celt_session.specs.Texts.{hex_digit, hex_digits, IsPut}
 use Rattle.celt_session.specs.Lines.{line_of}
 
@@ -74,3 +74,16 @@ line_is o a b d e f g at1 at2 at3 at4 at5 end number len range p1 p2 p3 p4 p5 p6
     let tail3 = put_then b d g at2 at3 end (decimal len) (32 ∷ (hex_digits 8 range ++ 10 ∷ [])) p3 tail4 in
     let tail2 = put_then a b g at1 at2 end (32 ∷ []) (decimal len ++ 32 ∷ (hex_digits 8 range ++ 10 ∷ [])) p2 tail3 in
     (put_then o a g 0 at1 end (decimal number) (32 ∷ (decimal len ++ 32 ∷ (hex_digits 8 range ++ 10 ∷ []))) p1 tail2).front
+
+-- text that is put between what stands before it and behind it
+pub put_spliced : (old new : List ℕ) (at end : ℕ) (text : List ℕ) → at + length text ≤ length old → end ≡ at + length text → new ≡ take at old ++ (text ++ drop end old) → IsPut old new at end text
+put_spliced old new at end text room is spliced =
+    let front = take at old ++ text in
+    let first : length (take at old) ≡ at = length-take-le at old (omega arith) in
+    let many : length front ≡ end = let n = length-append (take at old) text in omega arith in
+    let whole : new ≡ front ++ drop end old = spliced ∙ sym (append_assoc (take at old) text (drop end old)) in
+    record {
+      len = let a = ap length whole in let b = length-append front (drop end old) in let d = length-drop end old in omega arith;
+      front = ap (take end) whole ∙ ap (λ n. take n (front ++ drop end old)) (sym many) ∙ take-append_seam front (drop end old);
+      ends = is;
+    }

@@ -9,11 +9,12 @@ use Rattle.frame_symbols.specs.Readings.{range_of}
 use Rattle.celt_session.specs.Choices.{either_function}
 use Rattle.celt_session.specs.Samples.{samples_function}
 use Rattle.celt_session.specs.Lines.{lines_function}
-use Rattle.celt_session.specs.Silence.{are_silent, silent_step}
+use Rattle.celt_session.specs.Players.{players_step}
+use Rattle.celt_session.specs.Playing.{decoder_step}
 use Rattle.celt_session.specs.Outcomes.{Meaning, meaning}
 
 abbrev pub samples : PageFunction
-samples = samples_function silent_step are_silent
+samples = samples_function (players_step decoder_step) (λ frames. true)
 
 abbrev pub lines : PageFunction
 lines = lines_function range_of (λ frames. true)
@@ -23,11 +24,14 @@ decoding_function = either_function samples lines
 
 -- the state before the first page
 abbrev pub playing : Bool → Bool → samples.State
-playing awaits_header invert = record { pages = 0; awaits_header = awaits_header; invert = invert; decoder = silent_step.start }
+playing awaits_header invert = record { pages = 0; awaits_header = awaits_header; invert = invert; decoder = (players_step decoder_step).start }
+
+abbrev pub sampling : Bool → Bool → decoding_function.State
+sampling awaits_header invert = inl (playing awaits_header invert)
 
 abbrev pub start_by : Form → Bool → decoding_function.State
-start_by Wav invert = inl (playing true invert)
-start_by Plain invert = inl (playing false invert)
+start_by Wav invert = sampling true invert
+start_by Plain invert = sampling false invert
 start_by Ranges invert = inr (record { pages = 0; frames = 0 })
 
 abbrev pub start_of : DecodeSettings → decoding_function.State

@@ -1,6 +1,7 @@
 pub mod Choices
 pub mod Decoders
 pub mod Decoding
+pub mod Encoding
 pub mod Forms
 pub mod Frames
 pub mod Lines
@@ -8,8 +9,11 @@ pub mod Outcomes
 pub mod PageFunctions
 pub mod PageWorks
 pub mod Pages
+pub mod Players
+pub mod Playing
+pub mod Reads
 pub mod Samples
 pub mod Sessions
-pub mod Silence
 pub mod Texts
+pub mod Waves
 pub mod Works

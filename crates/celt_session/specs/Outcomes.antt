@@ -1,8 +1,9 @@
 -- The status that a limit and the bytes of the input give, and what each status says of the output.
-use Rattle.std.specs.Prelude.{◌≡◌, ℕ, Bool, true, false, List, ◌++◌, length, take, Option, None, Some, nat_lt, if◌then◌else◌, ⊤}
+use Rattle.std.specs.Prelude.{◌≡◌, ℕ, Bool, true, false, List, ◌++◌, length, take, Option, None, Some, nat_lt, ⊤}
 use Rattle.std.specs.Io.KnownBytes.{Appends, Keeps}
 use Rattle.celt_base.specs.declared.status.Fault.{Fault}
 use Rattle.celt_base.specs.declared.status.FaultName.{FaultName}
+use Rattle.celt_base.specs.declared.status.FaultName.TheVariants as names
 use Rattle.celt_base.specs.declared.status.Status.{Status}
 use Rattle.celt_base.specs.declared.status.Status.TheVariants as statuses
 use Rattle.celt_base.specs.Outside.{AppendsFront}
@@ -17,6 +18,13 @@ pub record Meaning : Type 0 where
   pub fault_of : List ℕ → Option Fault
   pub is_end : FaultName → Bool
 
+-- the names that say so of a WAV file or of a stream
+abbrev pub is_early_end : FaultName → Bool
+is_early_end names.Truncated = true
+is_early_end names.NoData = true
+is_early_end names.DataTruncated = true
+is_early_end _ = false
+
 abbrev pub meaning : (f : PageFunction) → f.State → Meaning
 meaning f start = record { full = full f start; running = running f start; fault_of = fault_of f start; is_end = is_end_name }
 
@@ -25,9 +33,13 @@ abbrev pub ended_status : Option Fault → Status
 ended_status None = statuses.Done
 ended_status (Some fault) = statuses.Refused fault
 
+abbrev pub cut_status_by : Bool → Fault → Status
+cut_status_by true fault = statuses.InputTooLong
+cut_status_by false fault = statuses.Refused fault
+
 abbrev pub cut_status : (FaultName → Bool) → Option Fault → Status
 cut_status is_end None = statuses.InputTooLong
-cut_status is_end (Some fault) = if is_end fault.name then statuses.InputTooLong else statuses.Refused fault
+cut_status is_end (Some fault) = cut_status_by (is_end fault.name) fault
 
 abbrev pub status_by : (FaultName → Bool) → Bool → Option Fault → Status
 status_by is_end true fault = cut_status is_end fault
@@ -64,3 +76,30 @@ Writes m limit bytes left old new statuses.Usage = ⊥
 Writes m limit bytes left old new statuses.ReadFault = AddsTaken m bytes left old new
 Writes m limit bytes left old new statuses.WriteFault = AppendsFront old new (m.full bytes)
 Writes m limit bytes left old new statuses.NoMemory = Keeps old new
+
+-- ---- an input that is read whole before anything is written
+
+-- what was added to the output; a front of it where something failed
+abbrev pub WritesFront : Meaning → ℕ → List ℕ → Option (List ℕ) → Option (List ℕ) → Status → Type 0
+WritesFront m limit bytes old new statuses.Done = Appends old new (m.full bytes)
+WritesFront m limit bytes old new (statuses.Refused fault) = Appends old new (m.full bytes)
+WritesFront m limit bytes old new statuses.InputTooLong = Appends old new (m.running (take limit bytes))
+WritesFront m limit bytes old new statuses.Usage = ⊥
+WritesFront m limit bytes old new statuses.ReadFault = AppendsFront old new (m.full bytes)
+WritesFront m limit bytes old new statuses.WriteFault = AppendsFront old new (m.full bytes)
+WritesFront m limit bytes old new statuses.NoMemory = AppendsFront old new (m.full bytes)
+
+-- what is written of the first bytes of an input, which goes on behind them or does not
+abbrev pub written : Meaning → Bool → List ℕ → List ℕ
+written m true first = m.running first
+written m false first = m.full first
+
+-- all of it was added to the output, or a front where something failed
+abbrev pub AddsAll : List ℕ → Option (List ℕ) → Option (List ℕ) → Status → Type 0
+AddsAll bytes old new statuses.Done = Appends old new bytes
+AddsAll bytes old new (statuses.Refused fault) = Appends old new bytes
+AddsAll bytes old new statuses.InputTooLong = Appends old new bytes
+AddsAll bytes old new statuses.Usage = AppendsFront old new bytes
+AddsAll bytes old new statuses.ReadFault = AppendsFront old new bytes
+AddsAll bytes old new statuses.WriteFault = AppendsFront old new bytes
+AddsAll bytes old new statuses.NoMemory = AppendsFront old new bytes

@@ -1,7 +1,8 @@
 -- The samples of a stream: those of the frames of the accepted pages, one behind the other, of which each page's span is written
 -- (RFC 7845, section 4), channels interleaved, in 16 bits, the lower byte first.
-use Rattle.std.specs.Prelude.{ℕ, ℤ, pos, ◌+◌, ◌*◌, ◌==◌, Bool, false, List, [], ◌∷◌, ◌++◌, if◌then◌else◌, Option, None, Some}
+use Rattle.std.specs.Prelude.{◌≡◌, ℕ, ℤ, pos, ◌+◌, ◌-◌, ◌*◌, length, ◌==◌, Bool, false, List, [], ◌∷◌, ◌++◌, if◌then◌else◌, Option, None, Some}
 use Rattle.std.specs.List.{slice_range}
+use Rattle.std.specs.Io.KnownBytes.{Appends}
 use Rattle.opus_packets.specs.declared.header.Head.{Head}
 use Rattle.wav_edge.specs.Samples.{bytes_of}
 use Rattle.wav_edge.specs.Spellings.{header}
@@ -33,6 +34,17 @@ decoder_after step s target (frame ∷ frames) = decoder_after step (step.after 
 unfoldable pub samples_of : (step : FrameStep) → step.State → Target → List Frame → List ℤ
 samples_of step s target [] = []
 samples_of step s target (frame ∷ frames) = step.samples s target frame ++ samples_of step (step.after s target frame) target frames
+
+-- the bytes of those of their samples that are between two places
+abbrev pub text_of : (step : FrameStep) → step.State → Target → List Frame → ℕ → ℕ → List ℕ
+text_of step s target frames from to = bytes_of (slice_range (samples_of step s target frames) from to)
+
+-- frames were played: the state behind them, what is left of the two places, and their text in the output
+pub record Sounds (step : FrameStep) (s : step.State) (target : Target) (frames : List Frame) (from to : ℕ) (now : step.State) (behind until : ℕ) (old new : Option (List ℕ)) : Type 0 where
+  pub state_is : now ≡ decoder_after step s target frames
+  pub from_is : behind ≡ from - length (samples_of step s target frames)
+  pub to_is : until ≡ to - length (samples_of step s target frames)
+  pub goes : Appends old new (text_of step s target frames from to)
 
 -- ---- A PAGE
 

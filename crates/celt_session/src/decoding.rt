@@ -3,7 +3,7 @@ ghost use Rattle.std.specs.Prelude.{◌≡◌, ◌≢◌, ◌^◌, ◌≤◌, If
 ghost use Rattle.celt_base.specs.Outside.{Rose};
 ghost use Rattle.celt_session.specs.Choices.{choice_shows, choice_count};
 ghost use Rattle.celt_session.specs.PageWorks.{samples_work, lines_work};
-ghost use Rattle.celt_session.specs.Decoding.{start_of, decoding};
+ghost use Rattle.celt_session.specs.Decoding.{sampling, start_of, decoding};
 ghost use Rattle.celt_session.specs.Outcomes.{wanted, Answers, Writes};
 
 use crate::choice::Choice;
@@ -19,14 +19,25 @@ use std::alloc::Global;
 use std::marker::Model;
 use std::thread::Threads;
 
+/// Samples, before the first page.
+fn samples_for(alloc: Global, has_header: bool, invert: bool) -> Result<Choice<Samples, Lines>, OutOfMemory>
+    ensures shows { IfOk result (λ work. choice_shows samples_work lines_work work (sampling has_header invert)) }
+    ensures new { IfOk result (λ work. choice_count samples_work lines_work work ≡ 0) }
+{
+    match Samples::new(alloc, has_header, invert) {
+        Ok(samples) => Ok(Choice::First(samples)),
+        Err(_) => Err(OutOfMemory),
+    }
+}
+
 /// What the settings ask for, before the first page.
 fn work_of(alloc: Global, settings: DecodeSettings) -> Result<Choice<Samples, Lines>, OutOfMemory>
     ensures shows { IfOk result (λ work. choice_shows samples_work lines_work work (start_of settings)) }
     ensures new { IfOk result (λ work. choice_count samples_work lines_work work ≡ 0) }
 {
     match settings.form {
-        Form::Wav => Ok(Choice::First(Samples::new(true, settings.invert))),
-        Form::Plain => Ok(Choice::First(Samples::new(false, settings.invert))),
+        Form::Wav => samples_for(alloc, true, settings.invert),
+        Form::Plain => samples_for(alloc, false, settings.invert),
         Form::Ranges => match Lines::new(alloc) {
             Ok(lines) => Ok(Choice::Second(lines)),
             Err(_) => Err(OutOfMemory),

@@ -3,20 +3,28 @@
 #![tactic(auto)]
 
 mod choice;
+mod coding;
 mod decoding;
+mod encode;
+mod encoding;
+mod encoding_laws;
 mod fed;
 mod giving;
 mod laws;
 mod lines;
+mod playing;
+mod reading;
 mod samples;
 mod session;
 mod settings;
-mod silence;
 mod stream;
 pub mod text;
+mod wave;
 mod work;
 
 pub use decoding::{DecodeSession, decode_stream};
+pub use encode::encode_stream;
+pub use encoding_laws::{law_frames, law_silent_frame, law_stream_goes_on, law_wave_fault_stays};
 pub use fed::Fed;
 pub use laws::{law_fault_stays, law_pieces, law_running_goes_on};
-pub use settings::{DecodeSettings, Form};
+pub use settings::{DecodeSettings, Form, Settings};

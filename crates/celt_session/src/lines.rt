@@ -69,7 +69,7 @@ fn end_of(config: u32) -> u8
 }
 
 /// The kind of the frames of an audio packet.
-fn kind_of(frames: &Frames) -> Kind
+pub(crate) fn kind_of(frames: &Frames) -> Kind
     ensures { result ≡ kind_for (slice_index frames.now.packet 0) }
 {
     let config = frames.config();

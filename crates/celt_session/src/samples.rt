@@ -1,113 +1,98 @@
-//! The samples of silent frames, as a WAV file or alone.
-ghost use Rattle.std.specs.Prelude.{◌≡◌, ◌+◌, ◌-◌, ◌*◌, ◌^◌, ◌<◌, ◌≤◌, ◌⊎◌, ℕ, [], replicate, min, if◌then◌else◌};
-ghost use Rattle.celt_base.specs.Outside.{HasCause, WritesAll};
-ghost use Rattle.celt_session.specs.Pages.{Heard, IsGiven};
-ghost use Rattle.wav_edge.specs.Spellings.{header};
-ghost use Rattle.celt_session.specs.Samples.{channels_in};
-ghost use Rattle.celt_session.specs.Frames.{page_frames, durations};
-ghost use Rattle.celt_session.specs.Works.{Worked};
-ghost use Rattle.celt_session.specs.PageWorks.{samples_work, ShowsSamples};
-ghost use Rattle.celt_session.specs.Decoding.{samples};
+//! The samples of a stream, as a WAV file or alone.
+ghost use Rattle.std.specs.Prelude.{◌≡◌};
 
-use crate::silence::{is_silent_page, page_duration};
+use crate::playing::{Playing, playing_of, write_opening, write_page};
 use crate::work::PageWork;
 use celt_base::outside::{Failed, Gate, Sink};
-use opus_packets::Head;
+use celt_base::status::OutOfMemory;
+use celt_synth::Decoder;
+use frame_symbols::Symbols;
 use opus_stream::{Span, StreamReader};
+use std::alloc::Global;
 use std::thread::Threads;
-use wav_edge::written::write_header;
 
-/// The longest silence that is written at once, in samples per channel.
-const PIECE_LEN: u64 = 1024;
-
-/// The bytes of samples that are 0.
-const ZEROS: [u8; 4096] = [0; 4096];
-
-/// Writes the samples of silent frames.
-#[derive(Clone, Copy, Debug)]
+/// Writes the samples of a stream.
+#[derive(Drop)]
 pub(crate) struct Samples {
     /// How many pages were worked on.
     pages: u64,
     /// Whether a WAV header is written with the next page.
     awaits_header: bool,
-    /// Whether phase inversion is taken.
-    invert: bool,
+    /// The decoder of a stream of one channel.
+    mono: Decoder,
+    /// The decoder of a stream of two channels.
+    stereo: Decoder,
+    /// The room for what is read of a frame.
+    symbols: Symbols,
+    ghost one: { mono.channels ≡ 1 },
+    ghost two: { stereo.channels ≡ 2 },
 }
 
 impl Samples {
-    /// Before the first page.
-    pub(crate) fn new(has_header: bool, invert: bool) -> Samples
-        ensures { result ≡ record { pages = 0; awaits_header = has_header; invert = invert } }
+    ghost use Rattle.std.specs.Prelude.{◌≡◌, ◌≤◌, ◌⊎◌, unsigned_abs, IfOk};
+    ghost use Rattle.celt_base.specs.Outside.{HasCause};
+    ghost use Rattle.celt_session.specs.Pages.{Heard, IsGiven};
+    ghost use Rattle.celt_session.specs.Frames.{page_frames};
+    ghost use Rattle.celt_session.specs.PageWorks.{ShowsSamples, PlaysChosen};
+    ghost use Rattle.celt_session.specs.Decoding.{playing as start_of_samples};
+
+    /// Before the first page. Phase inversion is left out where `invert` is false.
+    pub(crate) fn new(alloc: Global, has_header: bool, invert: bool) -> Result<Samples, OutOfMemory>
+        ensures shows { IfOk result (λ work. ShowsSamples work (start_of_samples has_header invert)) }
+        ensures pages { IfOk result (λ work. work.pages ≡ 0) }
     {
-        Samples {
-            pages: 0,
-            awaits_header: has_header,
-            invert,
+        let Ok(mono) = Decoder::new(alloc, 1, invert) else {
+            return Err(OutOfMemory);
+        };
+        let Ok(stereo) = Decoder::new(alloc, 2, invert) else {
+            return Err(OutOfMemory);
+        };
+        match Symbols::new(alloc) {
+            Ok(symbols) => Ok(Samples {
+                pages: 0,
+                awaits_header: has_header,
+                mono,
+                stereo,
+                symbols,
+            }),
+            Err(_) => Err(OutOfMemory),
         }
     }
-}
 
-/// The number of channels of the stream.
-fn channels_of(head: Option<Head>) -> u8
-    ensures value { result ≡ channels_in head }
-    ensures one_or_two { (result ≡ 1) ⊎ (result ≡ 2) }
-{
-    match head {
-        Some(head) if head.channels == 2 => 2,
-        _ => 1,
+    /// Plays the frames of the page that was given last with the decoder for its channels.
+    fn play<K: Sink>(
+        &mut self,
+        reader: &StreamReader,
+        playing: Playing,
+        output: &mut K,
+    ) -> Result<Span, Failed>
+        requires one_or_two { (playing.channels ≡ 1) ⊎ (playing.channels ≡ 2) }
+        requires gain { unsigned_abs playing.gain ≤ 32768 }
+        ensures pages { self.new.pages ≡ self.old.pages }
+        ensures awaits_header { self.new.awaits_header ≡ self.old.awaits_header }
+        ensures plays { (heard : Heard) → IsGiven reader.now heard →
+            PlaysChosen self.old playing (page_frames heard.packets) self.new (K.held output.old) (K.held output.new) result }
+        ensures cause { HasCause (K.faults output.old) (K.faults output.new) result }
+    {
+        if playing.channels == 2 {
+            return write_page(&mut self.stereo, reader, playing, &mut self.symbols, output);
+        }
+        write_page(&mut self.mono, reader, playing, &mut self.symbols, output)
     }
-}
-
-/// Writes the WAV header where it is awaited.
-fn write_opening<K: Sink>(awaits_header: bool, channels: u8, output: &mut K) -> Result<(), Failed>
-    ensures bytes { WritesAll (K.held output.old) (K.held output.new) result (if awaits_header then header channels else []) }
-    ensures cause { HasCause (K.faults output.old) (K.faults output.new) result }
-{
-    if !awaits_header {
-        return Ok(());
-    }
-    let mut bytes = [0; 44];
-    write_header(channels, &mut bytes);
-    output.write_all(&bytes)
-}
-
-/// Writes so many samples per channel that are 0.
-fn write_silence<K: Sink>(count: u64, channels: u8, output: &mut K) -> Result<(), Failed>
-    requires { (channels ≡ 1) ⊎ (channels ≡ 2) }
-    ensures bytes { WritesAll (K.held output.old) (K.held output.new) result (replicate (count * (2 * channels)) 0) }
-    ensures cause { HasCause (K.faults output.old) (K.faults output.new) result }
-{
-    let size = 2 * u64::from(channels);
-    let mut left = count;
-    while left > 0 {
-        let len = left.min(PIECE_LEN);
-        let (zeros, _) = ZEROS.split_at((len * size) as usize);
-        let Ok(()) = output.write_all(zeros) else {
-            return Err(Failed);
-        };
-        left -= len;
-    }
-    Ok(())
-}
-
-/// How many samples per channel of the page that was given last are written.
-fn written_len(reader: &StreamReader) -> u64
-    ensures { (heard : Heard) → IsGiven reader.now heard →
-        result ≡ min (durations (page_frames heard.packets)) heard.span.to - heard.span.from }
-{
-    let Span { from, to } = reader.written();
-    page_duration(reader, to).saturating_sub(from)
 }
 
 impl PageWork for Samples {
+    ghost use Rattle.std.specs.Prelude.{◌≡◌, ◌+◌, ◌^◌, ◌<◌, ◌≤◌};
+    ghost use Rattle.celt_base.specs.Outside.{HasCause};
+    ghost use Rattle.celt_session.specs.Pages.{Heard, IsGiven};
+    ghost use Rattle.celt_session.specs.Works.{Worked};
+    ghost use Rattle.celt_session.specs.PageWorks.{samples_work, ShowsSamples};
+    ghost use Rattle.celt_session.specs.Decoding.{samples};
+
     ghost work = { samples_work };
 
-    fn unbuilt(&self, reader: &StreamReader) -> Option<u64> {
-        if is_silent_page(reader) {
-            None
-        } else {
-            Some(self.pages)
-        }
+    fn unbuilt(&self, _reader: &StreamReader) -> Option<u64> {
+        None
     }
 
     fn page<R: Threads, K: Sink, G: Gate>(
@@ -123,11 +108,11 @@ impl PageWork for Samples {
         ensures cause { HasCause (K.faults output.old) (K.faults output.new) result }
         ensures count { self.new.pages ≤ self.old.pages + 1 }
     {
-        let channels = channels_of(reader.head());
-        let Ok(()) = write_opening(self.awaits_header, channels, output) else {
+        let playing = playing_of(reader);
+        let Ok(()) = write_opening(self.awaits_header, playing.channels, output) else {
             return Err(Failed);
         };
-        let Ok(()) = write_silence(written_len(reader), channels, output) else {
+        let Ok(_) = self.play(reader, playing, output) else {
             return Err(Failed);
         };
         self.pages += 1;

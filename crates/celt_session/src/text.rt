@@ -1,5 +1,5 @@
 //! Numbers that are written as text, into a slice.
-ghost use Rattle.std.specs.Prelude.{◌+◌, ◌<◌, ◌≤◌, ◌≡◌, ◌∷◌, [], length};
+ghost use Rattle.std.specs.Prelude.{◌+◌, ◌++◌, ◌<◌, ◌≤◌, ◌≡◌, ◌∷◌, [], length, take, drop};
 ghost use Rattle.std.specs.Fmt.{decimal};
 ghost use Rattle.celt_session.specs.Texts.{hex_digit as digit_of, hex_digits, IsPut};
 
@@ -10,6 +10,25 @@ pub fn put_byte(out: &mut [u8], at: usize, byte: u8) -> usize
 {
     out[at] = byte;
     at + 1
+}
+
+/// Copies bytes into place, and answers the place behind them.
+fn put(out: &mut [u8], at: usize, bytes: &[u8]) -> usize
+    requires { at + length bytes.now ≤ length out.old }
+    ensures next { result ≡ at + length bytes.now }
+    ensures written { out.new ≡ take at out.old ++ (bytes.now ++ drop result out.old) }
+{
+    let end = at + bytes.len();
+    out[at..end].copy_from_slice(bytes);
+    end
+}
+
+/// Puts text at a place, and answers the place behind it.
+pub fn put_text(out: &mut [u8], at: usize, text: &[u8]) -> usize
+    requires { at + length text.now ≤ length out.old }
+    ensures { IsPut out.old out.new at result text.now }
+{
+    put(out, at, text)
 }
 
 /// Puts the decimal digits of a number at a place, and answers the place behind them.

@@ -1,44 +1,23 @@
-use Rattle.std.proofs.Common.{◌+◌, ◌-◌, refl, ◌∙◌, ap, min}
-use Rattle.celt_session.specs.Frames.{page_frames, durations}
-use Rattle.celt_session.specs.Samples.{channels_in}
-use Rattle.celt_session.proofs.Framing.{given_head}
-use Rattle.celt_session.proofs.PlayingPages.{played, head_failed, zeros_failed}
+use Rattle.std.proofs.Common.{◌+◌, refl, ◌∙◌, ap}
+use Rattle.celt_session.proofs.PlayingPages.{played, failed, said, text_failed, head_failed}
 use Rattle.celt_session.proofs.samples.SamplesPageWork.page.Goals as goal
 
 pub returns-in_default-clause-works : goal.returns-in_default-clause-works
 returns-in_default-clause-works g c = λ s heard shows is.
-    head_failed s heard c.args.self.now.awaits_header c.channels_of-channels.result (min (durations (page_frames heard.packets)) heard.span.to - heard.span.from)
-    (g.K.Sink.held c.args.output.now) (g.K.Sink.held c.write_opening.new.output)
-    (record {
-      awaits_is = shows.awaits_header;
-      channels_is = c.channels_of-channels.ensures.value ∙ ap channels_in (given_head c.args.reader.now heard c.head.result is c.head.ensures.head);
-      some = c.channels_of-channels.ensures.one_or_two;
-      len_is = refl;
-    })
-    c.in_default.ensures.bytes
+    head_failed c.args.self.now s heard shows c.playing_of-playing.result (g.K.Sink.held c.args.output.now) (g.K.Sink.held c.write_opening.new.output) (c.playing_of-playing.ensures.value heard is) c.in_default.ensures.bytes
 
-pub returns-in_default-write_silence-clause-works : goal.returns-in_default-write_silence-clause-works
-returns-in_default-write_silence-clause-works g c = λ s heard shows is.
-    zeros_failed s heard c.args.self.now.awaits_header c.channels_of-channels.result c.written_len.result
-    (g.K.Sink.held c.args.output.now) (g.K.Sink.held c.write_opening.new.output) (g.K.Sink.held c.write_silence.new.output)
-    (record {
-      awaits_is = shows.awaits_header;
-      channels_is = c.channels_of-channels.ensures.value ∙ ap channels_in (given_head c.args.reader.now heard c.head.result is c.head.ensures.head);
-      some = c.channels_of-channels.ensures.one_or_two;
-      len_is = c.written_len.ensures heard is;
-    })
-    c.in-Ok.ensures.bytes c.in_default-write_silence.ensures.bytes
+pub returns-in_default-play-clause-works : goal.returns-in_default-play-clause-works
+returns-in_default-play-clause-works g c = λ s heard shows is.
+    let q = c.playing_of-playing.result in
+    let e = c.playing_of-playing.ensures.value heard is in
+    text_failed c.args.self.now s heard shows q (g.K.Sink.held c.args.output.now) (g.K.Sink.held c.write_opening.new.output) (g.K.Sink.held c.play.new.output) e c.in-Ok.ensures.bytes
+    (failed c.args.self.now s heard shows q c.play.new.self _ (g.K.Sink.held c.write_opening.new.output) (g.K.Sink.held c.play.new.output) e (c.in_default-play.ensures.plays heard is))
 
 pub returns-clause-works : goal.returns-clause-works
-returns-clause-works g c = λ s heard shows is. (
-  record { pages = ap (λ n. n + 1) shows.pages; awaits_header = refl; invert = shows.invert },
-  played s heard c.args.self.now.awaits_header c.channels_of-channels.result c.written_len.result
-      (g.K.Sink.held c.args.output.now) (g.K.Sink.held c.write_opening.new.output) (g.K.Sink.held c.write_silence.new.output)
-      (record {
-        awaits_is = shows.awaits_header;
-        channels_is = c.channels_of-channels.ensures.value ∙ ap channels_in (given_head c.args.reader.now heard c.head.result is c.head.ensures.head);
-        some = c.channels_of-channels.ensures.one_or_two;
-        len_is = c.written_len.ensures heard is;
-      })
-      c.in-Ok.ensures.bytes c.in-Ok-write_silence.ensures.bytes,
-)
+returns-clause-works g c = λ s heard shows is.
+    let q = c.playing_of-playing.result in
+    let e = c.playing_of-playing.ensures.value heard is in
+    let all = played c.args.self.now s heard shows q c.play.new.self _ (g.K.Sink.held c.write_opening.new.output) (g.K.Sink.held c.play.new.output) e (c.in-Ok-play.ensures.plays heard is) in (
+      record { pages = ap (λ n. n + 1) (c.in-Ok-play.ensures.pages ∙ shows.pages); awaits_header = refl; mono = all.mono; stereo = all.stereo },
+      said c.args.self.now s heard shows q (g.K.Sink.held c.args.output.now) (g.K.Sink.held c.write_opening.new.output) (g.K.Sink.held c.play.new.output) e c.in-Ok.ensures.bytes all.goes,
+    )
