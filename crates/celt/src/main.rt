@@ -1,5 +1,5 @@
-//! `celt` decodes the silent form of CELT-only Opus streams in Ogg, and encodes the silence of WAV files:
-//! standard input, standard output, and one line on standard error where the words or the input are refused.
+//! `celt` decodes CELT-only Opus streams in Ogg into samples, and encodes the silence of WAV files: standard
+//! input, standard output, and one line on standard error where the words or the input are refused.
 #![tactic(auto)]
 
 use celt_base::outside::NoGate;

@@ -1,12 +1,5 @@
-pub mod Accepting
-pub mod Finishing
-pub mod Prefixes
-pub mod Read
-pub mod Samples
-pub mod Walking
-pub mod Zeros
-pub mod Encoded
-pub mod SilentFrame
 pub mod Digits
-pub mod Pages
-pub mod WaveLemmas
+pub mod Finding
+pub mod Noting
+pub mod OptionCommands
+pub mod OptionWalks

@@ -1,11 +1,5 @@
-pub mod Decoding
-pub mod Encoding
-pub mod Form
 pub mod Notes
-pub mod Outcomes
-pub mod Progressing
-pub mod Reads
+pub mod Options
+pub mod Parses
 pub mod Runs
-pub mod Silences
-pub mod Waves
 pub mod Words

@@ -1,11 +1,10 @@
 //! Rows of encoded files, through the program and through the stream call. The pages were made by a program
 //! apart from this one.
-use crate::commands::encode_stream;
-use crate::settings::{Bandwidth, FrameSize, Settings};
 use crate::tests::{Failing, NONE_FAILS, attempt, pieces, refused};
 use celt_base::memory::{MemSink, MemSource};
 use celt_base::outside::NoGate;
 use celt_base::status::{FaultName, Status};
+use celt_session::{Settings, encode_stream};
 use std::alloc::{AllocError, Global};
 use std::process::Abort;
 use std::thread::Threads;
@@ -112,8 +111,9 @@ const QUARTER_LAST: [u8; 32] = [
 /// What the program encodes with where five bytes a frame are asked for.
 const FIVE: Settings = Settings {
     bytes: 5,
-    frame: FrameSize::Samples960,
-    band: Bandwidth::Full,
+    frame: 960,
+    band: 3,
+    group: 1,
 };
 
 const ENCODE_FIVE: [&str; 3] = ["encode", "--bytes", "5"];
@@ -158,11 +158,10 @@ fn joined(alloc: Global, head: &[u8], pages: &[&[u8]]) -> Result<Vec<u8>, AllocE
     Ok(bytes)
 }
 
-/// The stream call over the bytes in pieces: its status, and what it wrote.
+/// The stream call over the bytes in pieces, with five bytes a frame: its status, and what it wrote.
 fn streamed(
     rt: &impl Threads,
     alloc: Global,
-    settings: Settings,
     limit: u64,
     bytes: &[u8],
     size: usize,
@@ -170,11 +169,7 @@ fn streamed(
     let mut input = MemSource::new(pieces(alloc, bytes, size)?, Vec::new(alloc));
     let mut output = MemSink::new(alloc, Vec::new(alloc));
     let limit = limit.min(1 << 40);
-    let settings = Settings {
-        bytes: settings.bytes.clamp(2, 1275),
-        ..settings
-    };
-    let status = encode_stream(rt, alloc, settings, limit, &mut input, &mut output, &NoGate);
+    let status = encode_stream(rt, alloc, FIVE, limit, &mut input, &mut output, &NoGate);
     Ok((status, Vec::from_slice(alloc, output.bytes())?))
 }
 
@@ -182,13 +177,12 @@ fn streamed(
 #[derive(Drop)]
 struct Row<'a> {
     words: &'a [&'a str],
-    settings: Settings,
     status: Status,
     output: &'a [u8],
     note: &'a str,
 }
 
-/// A row through the program and through the stream call, in pieces of 1, of 7 and of all bytes.
+/// A row through the program, in pieces of 1, of 7 and of all bytes.
 fn expect(
     rt: &(impl Threads + Abort + AllocGlobal),
     bytes: &[u8],
@@ -204,14 +198,11 @@ fn expect(
             "stream in pieces of {size}"
         );
         assert_eq!(rt; got.notes.as_slice(), row.note.as_bytes());
-        let (status, output) = streamed(rt, alloc, row.settings, 1 << 40, bytes, size)?;
-        assert_eq!(rt; status, row.status);
-        assert_eq!(rt; output.as_slice(), row.output);
     }
     Ok(())
 }
 
-/// A file with five bytes a frame.
+/// A file with five bytes a frame, through the stream call too.
 fn expect_five(
     rt: &(impl Threads + Abort + AllocGlobal),
     bytes: &[u8],
@@ -221,11 +212,13 @@ fn expect_five(
 ) -> Result<(), AllocError> {
     let row = Row {
         words: &ENCODE_FIVE,
-        settings: FIVE,
         status,
         output,
         note,
     };
+    let (given, written) = streamed(rt, rt.alloc(), 1 << 40, bytes, 7)?;
+    assert_eq!(rt; given, status);
+    assert_eq!(rt; written.as_slice(), output);
     expect(rt, bytes, &row)
 }
 
@@ -254,7 +247,6 @@ fn stereo_files(rt: HostRuntime) -> Result<(), AllocError> {
     let stream = joined(alloc, &STEREO_HEAD, &[&TWO_GROUPS])?;
     let row = Row {
         words: &["encode", "--bytes", "2"],
-        settings: Settings { bytes: 2, ..FIVE },
         status: Status::Done,
         output: &stream,
         note: "",
@@ -262,49 +254,37 @@ fn stereo_files(rt: HostRuntime) -> Result<(), AllocError> {
     expect(&rt, &file(alloc, 2, 8, 4)?, &row)
 }
 
-/// A row of the stream call alone, in pieces of 1, of 7 and of all bytes.
-fn expect_call(
-    rt: &(impl Threads + Abort + AllocGlobal),
-    settings: Settings,
-    bytes: &[u8],
-    want: &[u8],
-) -> Result<(), AllocError> {
-    let alloc = rt.alloc();
-    for size in [1, 7, bytes.len()] {
-        let (status, output) = streamed(rt, alloc, settings, 1 << 40, bytes, size)?;
-        assert_eq!(rt; status, Status::Done);
-        assert_eq!(rt; output.as_slice(), want);
-    }
-    Ok(())
-}
-
-// Settings that the words do not name yet.
 #[test]
 fn other_settings(rt: HostRuntime) -> Result<(), AllocError> {
     let alloc = rt.alloc();
-    let shortest = Settings {
-        bytes: 5,
-        frame: FrameSize::Samples120,
-        band: Bandwidth::Narrow,
-    };
     let stream = joined(alloc, &MONO_HEAD, &[&SHORTEST])?;
-    expect_call(&rt, shortest, &file(alloc, 1, 0, 0)?, &stream)?;
-    let half = Settings {
-        bytes: 3,
-        frame: FrameSize::Samples480,
-        band: Bandwidth::SuperWide,
+    let shortest = Row {
+        words: &[
+            "encode", "--band", "nb", "--frame", "120", "--bytes", "5", "--",
+        ],
+        status: Status::Done,
+        output: &stream,
+        note: "",
     };
+    expect(&rt, &file(alloc, 1, 0, 0)?, &shortest)?;
     let groups = file(alloc, 2, 2000, 1000)?;
     let stream = joined(alloc, &STEREO_HEAD, &[&HALF_FIRST, &HALF_LAST])?;
-    expect_call(&rt, half, &groups, &stream)?;
-    let quarter = Settings {
-        bytes: 3,
-        frame: FrameSize::Samples240,
-        band: Bandwidth::Wide,
+    let half = Row {
+        words: &["encode", "--bytes=3", "--frame=480", "--band=swb"],
+        status: Status::Done,
+        output: &stream,
+        note: "",
     };
+    expect(&rt, &groups, &half)?;
     let pages: [&[u8]; 3] = [&QUARTER_FIRST, &QUARTER_SECOND, &QUARTER_LAST];
     let stream = joined(alloc, &STEREO_HEAD, &pages)?;
-    expect_call(&rt, quarter, &groups, &stream)
+    let quarter = Row {
+        words: &["encode", "--frame", "240", "--bytes", "3", "--band", "wb"],
+        status: Status::Done,
+        output: &stream,
+        note: "",
+    };
+    expect(&rt, &groups, &quarter)
 }
 
 #[test]
@@ -393,11 +373,11 @@ fn limits(rt: HostRuntime) -> Result<(), AllocError> {
         (43, Status::InputTooLong, b""),
     ];
     for (limit, want, output) in rows {
-        let got = streamed(&rt, alloc, FIVE, limit, &bytes, 7)?;
+        let got = streamed(&rt, alloc, limit, &bytes, 7)?;
         assert_eq!(rt; got.0, want, "limit {limit}");
         assert_eq!(rt; got.1.as_slice(), output, "limit {limit}");
     }
-    let broken = streamed(&rt, alloc, FIVE, 4, b"RIFYYYYY", 3)?;
+    let broken = streamed(&rt, alloc, 4, b"RIFYYYYY", 3)?;
     assert_eq!(rt; broken.0, refused(FaultName::BadRiff, 0));
     Ok(())
 }
@@ -406,7 +386,7 @@ fn limits(rt: HostRuntime) -> Result<(), AllocError> {
 fn words_of_encode(rt: HostRuntime) -> Result<(), AllocError> {
     let alloc = rt.alloc();
     let bytes = file(alloc, 1, 0, 0)?;
-    let refused: [&[&str]; 12] = [
+    let refused: [&[&str]; 19] = [
         &["encode"],
         &["encode", "--bytes"],
         &["encode", "--bytes", "1"],
@@ -416,8 +396,15 @@ fn words_of_encode(rt: HostRuntime) -> Result<(), AllocError> {
         &["encode", "--bytes", "5x"],
         &["encode", "--bytes", "00000000005"],
         &["encode", "--bytes", "9999999999"],
-        &["encode", "--bytes=80"],
-        &["encode", "--bytes", "80", "--"],
+        &["encode", "--bytes", "-5"],
+        &["encode", "--bytes="],
+        &["encode", "--frame", "120"],
+        &["encode", "--bytes", "80", "--bytes", "80"],
+        &["encode", "--bytes", "80", "--frame", "100"],
+        &["encode", "--bytes", "80", "--band", "mb"],
+        &["encode", "--bytes", "80", "--group", "2"],
+        &["encode", "--bytes", "80", "--", "x"],
+        &["encode", "--byte", "80"],
         &["decode", "--bytes", "80"],
     ];
     for words in refused {
@@ -426,9 +413,15 @@ fn words_of_encode(rt: HostRuntime) -> Result<(), AllocError> {
         assert!(rt; got.output.is_empty());
         assert_eq!(rt; got.notes.as_slice(), b"celt: usage\n".as_slice());
     }
-    for (word, len) in [("2", 2usize), ("0000000005", 5), ("1275", 1275)] {
-        let words = ["encode", "--bytes", word];
-        let got = attempt(&rt, alloc, &words, &bytes, 7, NONE_FAILS)?;
+    let accepted: [(&[&str], usize); 5] = [
+        (&["encode", "--bytes", "2"], 2),
+        (&["encode", "--bytes", "0000000005"], 5),
+        (&["encode", "--bytes", "1275"], 1275),
+        (&["encode", "--bytes=80"], 80),
+        (&["encode", "--band", "fb", "--bytes", "80", "--"], 80),
+    ];
+    for (words, len) in accepted {
+        let got = attempt(&rt, alloc, words, &bytes, 7, NONE_FAILS)?;
         assert_eq!(rt; got.status, Status::Done);
         // Two pages of headers, a page's header, its lacing values, and the packet.
         assert_eq!(rt; got.output.len(), 95 + 27 + (len + 1) / 255 + 1 + len + 1);

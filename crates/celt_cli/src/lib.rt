@@ -1,19 +1,12 @@
-//! The words of the program and its commands over a source and sinks.
+//! The words of the program, its notes, and a run over a source and two sinks.
 #![tactic(auto)]
 
-pub mod commands;
-pub mod decoding;
-pub mod encoding;
 #[cfg(test)]
 mod encoding_tests;
-pub mod laws;
+#[cfg(test)]
+mod music_tests;
 pub mod notes;
 pub mod program;
-pub mod progress;
-pub mod reading;
-pub mod settings;
-pub mod silence;
 #[cfg(test)]
 mod tests;
-pub mod wave;
 pub mod words;

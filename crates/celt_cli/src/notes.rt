@@ -1,9 +1,13 @@
 //! The notes on standard error: one line where the words are not accepted or the input is refused.
-ghost use Rattle.std.specs.Prelude.{◌≡◌, ◌++◌, ◌∷◌, [], IfOk, string_bytes, codes};
+ghost use Rattle.std.specs.Prelude.{◌≡◌, ◌≤◌, ◌+◌, ◌++◌, ◌∷◌, [], length, take, codes};
+ghost use Rattle.celt_session.specs.Texts.{IsPut};
 ghost use Rattle.celt_cli.specs.Notes.{number_of, word_of, place_of, place_word, labelled_of, details_of, opening_of, refusal_of};
 
 use celt_base::status::{Fault, FaultName};
-use std::alloc::{AllocError, Global};
+use celt_session::text::{put_byte, put_decimal, put_text};
+
+/// The room of the longest line.
+pub const MOST_LINE: usize = 256;
 
 /// What the place of a fault counts.
 #[derive(Clone, Copy, Debug, PartialEq, Eq)]
@@ -54,7 +58,8 @@ fn number(name: FaultName) -> u8
 
 /// The name of a fault.
 fn word(name: FaultName) -> &'static str
-    ensures { result.now ≡ word_of name }
+    ensures value { result.now ≡ word_of name }
+    ensures short { length result.now ≤ 17 }
 {
     match name {
         FaultName::BadCapture => "BadCapture",
@@ -117,7 +122,8 @@ fn counted(name: FaultName, unbuilt: Place) -> Place
 
 /// The word of a place.
 fn place_name(place: Place) -> &'static str
-    ensures { result.now ≡ place_word place }
+    ensures value { result.now ≡ place_word place }
+    ensures short { length result.now ≤ 6 }
 {
     match place {
         Place::Page => "page",
@@ -127,79 +133,71 @@ fn place_name(place: Place) -> &'static str
     }
 }
 
-/// A space, a label, a space and a number.
-fn labelled(alloc: Global, label: &str, number: u64) -> Result<String, AllocError>
-    ensures { IfOk result (λ s. string_bytes s ≡ labelled_of label.now number) }
+/// Puts a space, a label, a space and a number, and answers the place behind them.
+fn put_labelled(out: &mut [u8], at: usize, label: &str, number: u64) -> usize
+    requires { at + length label.now + 22 ≤ length out.old }
+    ensures put { IsPut out.old out.new at result (labelled_of label.now number) }
+    ensures most { result ≤ at + length label.now + 22 }
 {
-    format!(in alloc; " {label} {number}")
+    let at = put_byte(out, at, b' ');
+    let at = put_text(out, at, label.as_bytes());
+    let at = put_byte(out, at, b' ');
+    put_decimal(out, at, number)
 }
 
-/// One text behind the other.
-fn joined(alloc: Global, first: &str, second: &str) -> Result<String, AllocError>
-    ensures { IfOk result (λ s. string_bytes s ≡ first.now ++ second.now) }
-{
-    format!(in alloc; "{first}{second}")
-}
-
-/// What a fault says of the form of a WAVE file's samples.
-fn wave_details(
-    alloc: Global,
-    codec: u16,
-    bits: u16,
-    channels: u16,
-    rate: u32,
-) -> Result<String, AllocError>
-    ensures { IfOk result (λ s. string_bytes s ≡ (labelled_of (codes "codec") codec ++ labelled_of (codes "bits") bits)
+/// Puts what a fault says of the form of a WAVE file's samples.
+fn put_form(out: &mut [u8], at: usize, codec: u16, bits: u16, channels: u16, rate: u32) -> usize
+    requires { at + 120 ≤ length out.old }
+    ensures put { IsPut out.old out.new at result ((labelled_of (codes "codec") codec ++ labelled_of (codes "bits") bits)
         ++ (labelled_of (codes "channels") channels ++ labelled_of (codes "rate") rate)) }
+    ensures most { result ≤ at + 120 }
 {
-    let codec = labelled(alloc, "codec", u64::from(codec))?;
-    let bits = labelled(alloc, "bits", u64::from(bits))?;
-    let first = joined(alloc, codec.as_str(), bits.as_str())?;
-    let channels = labelled(alloc, "channels", u64::from(channels))?;
-    let rate = labelled(alloc, "rate", u64::from(rate))?;
-    let second = joined(alloc, channels.as_str(), rate.as_str())?;
-    joined(alloc, first.as_str(), second.as_str())
+    let at = put_labelled(out, at, "codec", u64::from(codec));
+    let at = put_labelled(out, at, "bits", u64::from(bits));
+    let at = put_labelled(out, at, "channels", u64::from(channels));
+    put_labelled(out, at, "rate", u64::from(rate))
 }
 
-/// What a fault says besides its place.
-fn details(alloc: Global, name: FaultName) -> Result<String, AllocError>
-    ensures { IfOk result (λ s. string_bytes s ≡ details_of name) }
+/// Puts what a fault says besides its place.
+fn put_details(out: &mut [u8], at: usize, name: FaultName) -> usize
+    requires { at + 120 ≤ length out.old }
+    ensures put { IsPut out.old out.new at result (details_of name) }
+    ensures most { result ≤ at + 120 }
 {
     match name {
-        FaultName::BadPacket { rule } => labelled(alloc, "rule", u64::from(rule)),
-        FaultName::NotCelt { config } => labelled(alloc, "config", u64::from(config)),
+        FaultName::BadPacket { rule } => put_labelled(out, at, "rule", u64::from(rule)),
+        FaultName::NotCelt { config } => put_labelled(out, at, "config", u64::from(config)),
         FaultName::UnsupportedFormat {
             codec,
             bits,
             channels,
             rate,
-        } => wave_details(alloc, codec, bits, channels, rate),
-        _ => Ok(String::new(alloc)),
+        } => put_form(out, at, codec, bits, channels, rate),
+        _ => at,
     }
 }
 
-/// `celt: `, a number, a space and a word.
-fn opening(alloc: Global, number: u8, word: &str) -> Result<String, AllocError>
-    ensures { IfOk result (λ s. string_bytes s ≡ opening_of number word.now) }
+/// Puts `celt: `, a number, a space and a word.
+fn put_opening(out: &mut [u8], number: u8, word: &str) -> usize
+    requires { length word.now + 27 ≤ length out.old }
+    ensures put { IsPut out.old out.new 0 result (opening_of number word.now) }
+    ensures most { result ≤ length word.now + 27 }
 {
-    format!(in alloc; "celt: {number} {word}")
+    let at = put_text(out, 0, b"celt: ");
+    let at = put_decimal(out, at, u64::from(number));
+    let at = put_byte(out, at, b' ');
+    put_text(out, at, word.as_bytes())
 }
 
-/// Two texts and a line feed.
-fn line(alloc: Global, first: &str, second: &str) -> Result<String, AllocError>
-    ensures { IfOk result (λ s. string_bytes s ≡ first.now ++ (second.now ++ 10 ∷ [])) }
-{
-    format!(in alloc; "{first}{second}\n")
-}
-
-/// The line of a fault. `unbuilt` is what its place counts where a form is not built.
+/// Puts the line of a fault, and answers its length. `unbuilt` is what its place counts where a form is not
+/// built.
 #[tactic(auto, unfolding(crate::specs::Notes::refusal_of))]
-pub fn refusal(alloc: Global, unbuilt: Place, fault: Fault) -> Result<String, AllocError>
-    ensures { IfOk result (λ s. string_bytes s ≡ refusal_of unbuilt fault) }
+pub fn put_refusal(out: &mut [u8; MOST_LINE], unbuilt: Place, fault: Fault) -> usize
+    ensures line { take result out.new ≡ refusal_of unbuilt fault }
+    ensures bound { result ≤ 256 }
 {
-    let opening = opening(alloc, number(fault.name), word(fault.name))?;
-    let place = labelled(alloc, place_name(counted(fault.name, unbuilt)), fault.at)?;
-    let details = details(alloc, fault.name)?;
-    let first = joined(alloc, opening.as_str(), place.as_str())?;
-    line(alloc, first.as_str(), details.as_str())
+    let at = put_opening(out, number(fault.name), word(fault.name));
+    let at = put_labelled(out, at, place_name(counted(fault.name, unbuilt)), fault.at);
+    let at = put_details(out, at, fault.name);
+    put_byte(out, at, b'\n')
 }

@@ -1,15 +1,15 @@
 //! The program over a source and two sinks.
 ghost use Rattle.std.specs.Prelude.{◌≡◌, ◌≢◌, ◌^◌, ◌≤◌, IfSome, None, Some};
 ghost use Rattle.celt_base.specs.Outside.{Rose};
-ghost use Rattle.celt_cli.specs.Outcomes.{wanted, Answers, Writes};
-ghost use Rattle.celt_cli.specs.Runs.{AnswersUsage, EitherRose, Says};
+ghost use Rattle.celt_session.specs.Outcomes.{wanted, Answers};
+ghost use Rattle.celt_cli.specs.Runs.{AnswersUsage, EitherRose, Says, Wrote};
 ghost use Rattle.celt_cli.specs.Words.{IsCommand, command_of, meaning_of, unbuilt_of};
 
-use crate::commands::{Form, decode_stream, encode_stream};
-use crate::notes::{Place, refusal};
+use crate::notes::{MOST_LINE, Place, put_refusal};
 use crate::words::{Command, command_in};
 use celt_base::outside::{Gate, Sink, Source};
 use celt_base::status::{Fault, Status};
+use celt_session::{decode_stream, encode_stream};
 use std::alloc::Global;
 use std::thread::Threads;
 
@@ -21,6 +21,7 @@ fn say_usage<E: Sink>(notes: &mut E) -> Status
     ensures status { AnswersUsage result }
     ensures notes { Says Place.Page Status.Usage (E.held notes.old) (E.held notes.new) result }
     ensures write_fault { result ≡ Status.WriteFault → Rose (E.faults notes.old) (E.faults notes.new) }
+    ensures no_memory_fault { result ≢ Status.NoMemory }
 {
     match notes.write_all(b"celt: usage\n") {
         Ok(()) => Status::Usage,
@@ -29,16 +30,17 @@ fn say_usage<E: Sink>(notes: &mut E) -> Status
 }
 
 /// Says why the input is refused.
-fn say_refusal<E: Sink>(alloc: Global, unbuilt: Place, fault: Fault, notes: &mut E) -> Status
+fn say_refusal<E: Sink>(unbuilt: Place, fault: Fault, notes: &mut E) -> Status
     ensures status { Answers (Status.Refused fault) result }
     ensures notes { Says unbuilt (Status.Refused fault) (E.held notes.old) (E.held notes.new) result }
     ensures write_fault { result ≡ Status.WriteFault → Rose (E.faults notes.old) (E.faults notes.new) }
     ensures no_read_fault { result ≢ Status.ReadFault }
+    ensures no_memory_fault { result ≢ Status.NoMemory }
 {
-    let Ok(line) = refusal(alloc, unbuilt, fault) else {
-        return Status::NoMemory;
-    };
-    match notes.write_all(line.as_bytes()) {
+    let mut line = [0; MOST_LINE];
+    let len = put_refusal(&mut line, unbuilt, fault);
+    let (text, _) = line.split_at(len);
+    match notes.write_all(text) {
         Ok(()) => Status::Refused(fault),
         Err(_) => Status::WriteFault,
     }
@@ -49,7 +51,7 @@ fn unbuilt(command: Command) -> Place
     ensures { result ≡ unbuilt_of command }
 {
     match command {
-        Command::Decode => Place::Page,
+        Command::Decode(_) => Place::Page,
         Command::Encode(_) => Place::Byte,
     }
 }
@@ -65,14 +67,17 @@ fn run_command<R: Threads, S: Source, K: Sink, G: Gate>(
 ) -> Status
     requires { IsCommand command }
     ensures status { IfSome (S.left input.old) (λ bytes. Answers (wanted (meaning_of command) (2 ^ 40) bytes) result) }
-    ensures output { IfSome (S.left input.old) (λ bytes. Writes (meaning_of command) (2 ^ 40) bytes (K.held output.old) (K.held output.new) result) }
+    ensures output { IfSome (S.left input.old) (λ bytes. Wrote command (2 ^ 40) bytes (S.left input.new) (K.held output.old) (K.held output.new) result) }
     ensures read_fault { result ≡ Status.ReadFault → Rose (S.faults input.old) (S.faults input.new) }
     ensures write_fault { result ≡ Status.WriteFault → Rose (K.faults output.old) (K.faults output.new) }
+    ensures memory { result ≡ Status.NoMemory → output.new ≡ output.old }
     ensures words { result ≢ Status.Usage }
     ensures kept { K.faults output.old ≤ K.faults output.new }
 {
     match command {
-        Command::Decode => decode_stream(rt, alloc, Form::Plain, LIMIT, input, output, gate),
+        Command::Decode(settings) => {
+            decode_stream(rt, alloc, settings, LIMIT, input, output, gate)
+        }
         Command::Encode(settings) => {
             encode_stream(rt, alloc, settings, LIMIT, input, output, gate)
         }
@@ -101,21 +106,27 @@ pub fn run<R: Threads, S: Source, K: Sink, E: Sink, G: Gate>(
     ensures status { IfSome (command_of words.now) (λ command.
         IfSome (S.left input.old) (λ bytes. Answers (wanted (meaning_of command) (2 ^ 40) bytes) result)) }
     ensures output { IfSome (command_of words.now) (λ command.
-        IfSome (S.left input.old) (λ bytes. Writes (meaning_of command) (2 ^ 40) bytes (K.held output.old) (K.held output.new) result)) }
+        IfSome (S.left input.old) (λ bytes. Wrote command (2 ^ 40) bytes (S.left input.new) (K.held output.old) (K.held output.new) result)) }
     ensures notes { IfSome (command_of words.now) (λ command.
         IfSome (S.left input.old) (λ bytes. Says (unbuilt_of command) (wanted (meaning_of command) (2 ^ 40) bytes) (E.held notes.old) (E.held notes.new) result)) }
+
+    // All memory is taken before anything is written.
+    ensures memory { result ≡ Status.NoMemory → output.new ≡ output.old }
+    ensures memory_notes { result ≡ Status.NoMemory → notes.new ≡ notes.old }
 
     // A failure of the outside has its cause.
     ensures read_fault { result ≡ Status.ReadFault → Rose (S.faults input.old) (S.faults input.new) }
     ensures write_fault { result ≡ Status.WriteFault
         → EitherRose (K.faults output.old) (K.faults output.new) (E.faults notes.old) (E.faults notes.new) }
 {
-    let Some(command) = command_in(words) else {
-        return say_usage(notes);
+    let command = match command_in(alloc, words) {
+        Ok(Some(command)) => command,
+        Ok(None) => return say_usage(notes),
+        Err(_) => return Status::NoMemory,
     };
     let status = run_command(rt, alloc, command, input, output, gate);
     match status {
-        Status::Refused(fault) => say_refusal(alloc, unbuilt(command), fault, notes),
+        Status::Refused(fault) => say_refusal(unbuilt(command), fault, notes),
         status => status,
     }
 }

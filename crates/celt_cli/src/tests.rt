@@ -1,10 +1,10 @@
 //! Rows of whole streams, through the program and through the stream call, over sources and sinks in
 //! memory. The pages were made, and the values computed, by a program apart from this one.
-use crate::commands::{Form, decode_stream};
 use crate::program::run;
 use celt_base::memory::{MemSink, MemSource};
 use celt_base::outside::NoGate;
 use celt_base::status::{Fault, FaultName, Status};
+use celt_session::{DecodeSettings, Form, decode_stream};
 use std::alloc::{AllocError, Global};
 use std::process::Abort;
 use std::thread::Threads;
@@ -39,12 +39,6 @@ const SILENCE_LOW: [u8; 31] = [
 const SILENCE_SHORT: [u8; 31] = [
     0x4f, 0x67, 0x67, 0x53, 0x00, 0x04, 0x78, 0x00, 0x00, 0x00, 0x00, 0x00, 0x00, 0x00, 0x01, 0x00,
     0x00, 0x00, 0x02, 0x00, 0x00, 0x00, 0xc3, 0x7c, 0x47, 0x4c, 0x01, 0x03, 0x80, 0xff, 0xfe,
-];
-
-/// The same with the packet F8 FF FD, which is not silent.
-const SOUND: [u8; 31] = [
-    0x4f, 0x67, 0x67, 0x53, 0x00, 0x04, 0xc0, 0x03, 0x00, 0x00, 0x00, 0x00, 0x00, 0x00, 0x01, 0x00,
-    0x00, 0x00, 0x02, 0x00, 0x00, 0x00, 0xf0, 0xb5, 0xf3, 0xd0, 0x01, 0x03, 0xf8, 0xff, 0xfd,
 ];
 
 /// Page 2 of a stream of four pages, with the packet F8 FF FE.
@@ -152,6 +146,11 @@ pub fn attempt(
     })
 }
 
+const PLAIN: DecodeSettings = DecodeSettings {
+    form: Form::Plain,
+    invert: true,
+};
+
 /// The stream call over the bytes in pieces: its status, and how many bytes it wrote.
 fn streamed(
     rt: &impl Threads,
@@ -163,15 +162,7 @@ fn streamed(
     let mut input = MemSource::new(pieces(alloc, bytes, size)?, Vec::new(alloc));
     let mut output = MemSink::new(alloc, Vec::new(alloc));
     let limit = limit.min(1 << 40);
-    let status = decode_stream(
-        rt,
-        alloc,
-        Form::Plain,
-        limit,
-        &mut input,
-        &mut output,
-        &NoGate,
-    );
+    let status = decode_stream(rt, alloc, PLAIN, limit, &mut input, &mut output, &NoGate);
     Ok((status, output.bytes().len()))
 }
 
@@ -208,6 +199,8 @@ fn silent_streams(rt: HostRuntime) -> Result<(), AllocError> {
     let alloc = rt.alloc();
     let one = stream(alloc, &[&SILENCE])?;
     expect(&rt, &one, Status::Done, 1920, "")?;
+    let empty = stream(alloc, &[&EMPTY])?;
+    expect(&rt, &empty, Status::Done, 0, "")?;
     let low = stream(alloc, &[&SILENCE_LOW])?;
     expect(&rt, &low, Status::Done, 1920, "")?;
     let short = stream(alloc, &[&SILENCE_SHORT])?;
@@ -219,16 +212,18 @@ fn silent_streams(rt: HostRuntime) -> Result<(), AllocError> {
 #[test]
 fn refused_streams(rt: HostRuntime) -> Result<(), AllocError> {
     let alloc = rt.alloc();
-    let sound = stream(alloc, &[&SOUND])?;
-    let unbuilt = refused(FaultName::NotBuilt, 2);
-    expect(&rt, &sound, unbuilt, 0, "celt: 99 NotBuilt page 2\n")?;
-    let empty = stream(alloc, &[&EMPTY])?;
-    expect(&rt, &empty, unbuilt, 0, "celt: 99 NotBuilt page 2\n")?;
     let segments = stream(alloc, &[&SEGMENTS_HEADER, &[0; 255]])?;
-    expect(&rt, &segments, unbuilt, 0, "celt: 99 NotBuilt page 2\n")?;
+    let packet = refused(FaultName::BadPacket { rule: 1 }, 0);
+    expect(
+        &rt,
+        &segments,
+        packet,
+        0,
+        "celt: 11 BadPacket packet 0 rule 1\n",
+    )?;
     let after = stream(alloc, &[&SILENCE, &[0]])?;
-    let behind = refused(FaultName::NotBuilt, 3);
-    expect(&rt, &after, behind, 1920, "celt: 99 NotBuilt page 3\n")?;
+    let behind = refused(FaultName::AfterEnd, 3);
+    expect(&rt, &after, behind, 1920, "celt: 14 AfterEnd page 3\n")?;
     let open = stream(alloc, &[&FIRST_OF_TWO])?;
     let truncated = refused(FaultName::Truncated, 3);
     expect(&rt, &open, truncated, 1920, "celt: 15 Truncated page 3\n")?;
@@ -312,11 +307,19 @@ fn limits(rt: HostRuntime) -> Result<(), AllocError> {
 fn words(rt: HostRuntime) -> Result<(), AllocError> {
     let alloc = rt.alloc();
     let whole = stream(alloc, &[&SILENCE])?;
-    let rows: [&[&str]; 6] = [
+    let rows: [&[&str]; 14] = [
         &[],
-        &["decode"],
+        &[""],
+        &["--"],
+        &["gen"],
         &["decode", "--raw", "--raw"],
+        &["decode", "--raw=1"],
+        &["decode", "--ra"],
+        &["decode", "-r"],
+        &["decode", "--", "--raw"],
         &["decode", "x"],
+        &["ranges", "--raw"],
+        &["ranges", "--", ""],
         &["Decode", "--raw"],
         &["Encode", "--bytes", "80"],
     ];
@@ -326,6 +329,44 @@ fn words(rt: HostRuntime) -> Result<(), AllocError> {
         assert!(rt; got.output.is_empty());
         assert_eq!(rt; got.notes.as_slice(), b"celt: usage\n".as_slice());
     }
+    let accepted: [(&[&str], usize); 7] = [
+        (&["decode"], 1964),
+        (&["decode", "--"], 1964),
+        (&["decode", "--no-inversion"], 1964),
+        (&["decode", "--raw", "--"], 1920),
+        (&["decode", "--no-inversion", "--raw"], 1920),
+        (&["ranges"], 13),
+        (&["ranges", "--"], 13),
+    ];
+    for (words, len) in accepted {
+        let got = attempt(&rt, alloc, words, &whole, 7, NONE_FAILS)?;
+        assert_eq!(rt; got.status, Status::Done);
+        assert_eq!(rt; got.output.len(), len);
+    }
+    Ok(())
+}
+
+// A WAV file begins with its header, and without any page it is the fault alone.
+#[test]
+fn wave_files(rt: HostRuntime) -> Result<(), AllocError> {
+    let alloc = rt.alloc();
+    let whole = stream(alloc, &[&SILENCE])?;
+    let got = attempt(&rt, alloc, &["decode"], &whole, 7, NONE_FAILS)?;
+    assert_eq!(rt; got.status, Status::Done);
+    let mut want = Vec::from_slice(
+        alloc,
+        b"RIFF\xff\xff\xff\xffWAVEfmt \x10\0\0\0\x01\0\x01\0\x80\xbb\0\0\0\x77\x01\0\x02\0\x10\0data\xff\xff\xff\xff",
+    )?;
+    want.extend_from_slice(&[0; 1920])?;
+    assert_eq!(rt; got.output.as_slice(), want.as_slice());
+    // The header is written with the first page that has frames, and never twice.
+    let (headers, _) = whole.split_at(whole.len().min(95));
+    let got = attempt(&rt, alloc, &["decode"], headers, 7, NONE_FAILS)?;
+    assert_eq!(rt; got.status, refused(FaultName::Truncated, 2));
+    assert_eq!(rt; got.output.len(), 44);
+    let two = stream(alloc, &[&FIRST_OF_TWO, &SECOND_OF_TWO])?;
+    let got = attempt(&rt, alloc, &["decode"], &two, 7, NONE_FAILS)?;
+    assert_eq!(rt; got.output.len(), 44 + 3840);
     Ok(())
 }
 
@@ -343,7 +384,13 @@ fn failures(rt: HostRuntime) -> Result<(), AllocError> {
         };
         let got = attempt(&rt, alloc, &DECODE, &two, 20, failing)?;
         assert_eq!(rt; got.status, Status::ReadFault, "read {call}");
-        assert!(rt; got.output.is_empty() && got.notes.is_empty());
+        let len = if call < 7 {
+            0
+        } else {
+            1920 * (call as usize - 6)
+        };
+        assert_eq!(rt; got.output.len(), len, "read {call}");
+        assert!(rt; got.notes.is_empty());
     }
     for (call, len) in [(0u64, 960usize), (1, 2880)] {
         let failing = Failing {
