@@ -100,4 +100,3 @@ kind_is kind toc config stereo e f lm channels end =
 
       by : (n : ℕ) → n < 2 → 1 + (if n == 1 then 1 else 0) ≡ 1 + n
       by n h = grind (arith, nat_tests)
-

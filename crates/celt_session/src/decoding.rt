@@ -20,7 +20,11 @@ use std::marker::Model;
 use std::thread::Threads;
 
 /// Samples, before the first page.
-fn samples_for(alloc: Global, has_header: bool, invert: bool) -> Result<Choice<Samples, Lines>, OutOfMemory>
+fn samples_for(
+    alloc: Global,
+    has_header: bool,
+    invert: bool,
+) -> Result<Choice<Samples, Lines>, OutOfMemory>
     ensures shows { IfOk result (λ work. choice_shows samples_work lines_work work (sampling has_header invert)) }
     ensures new { IfOk result (λ work. choice_count samples_work lines_work work ≡ 0) }
 {

@@ -44,7 +44,12 @@ fn place_of(channels: u8, sample: u64, len: usize) -> usize
 }
 
 /// Writes of the samples of a frame, channels interleaved, those of the span.
-fn write_cut<K: Sink>(samples: &[i16], channels: u8, span: Span, output: &mut K) -> Result<(), Failed>
+fn write_cut<K: Sink>(
+    samples: &[i16],
+    channels: u8,
+    span: Span,
+    output: &mut K,
+) -> Result<(), Failed>
     requires channels { (channels ≡ 1) ⊎ (channels ≡ 2) }
     requires len { length samples.now ≤ 1920 }
     ensures bytes { WritesAll (K.held output.old) (K.held output.new) result
@@ -213,7 +218,11 @@ pub(crate) fn playing_of(reader: &StreamReader) -> Playing
 }
 
 /// Writes the WAV header where it is awaited.
-pub(crate) fn write_opening<K: Sink>(awaits_header: bool, channels: u8, output: &mut K) -> Result<(), Failed>
+pub(crate) fn write_opening<K: Sink>(
+    awaits_header: bool,
+    channels: u8,
+    output: &mut K,
+) -> Result<(), Failed>
     ensures bytes { WritesAll (K.held output.old) (K.held output.new) result (if awaits_header then header channels else []) }
     ensures cause { HasCause (K.faults output.old) (K.faults output.new) result }
 {

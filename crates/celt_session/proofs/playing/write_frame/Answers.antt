@@ -16,9 +16,11 @@ returns-in-Ok-clause-plays g c =
     let h = c.requires.playing.gain in
     let same = to_z-of_z {w = w32} {z = c.args.playing.gain} (fits_signed_from_abs w32 c.args.playing.gain (omega (arith, ints, h))) in
     frame_sounds c.args.decoder.now c.play_frame.new.decoder c.args.playing c.args.kind c.args.frame.now c.play_frame.new.out
-    (record { playing = c.requires.playing; 
+    (record {
+      playing = c.requires.playing;
       now_is = c.play_frame.ensures.state ∙ ap (λ z. with_state d (played_by d c.args.kind c.args.frame.now z).state) same;
-      out_is = c.play_frame.ensures.samples ∙ ap (λ z. (played_by d c.args.kind c.args.frame.now z).samples) same })
+      out_is = c.play_frame.ensures.samples ∙ ap (λ z. (played_by d c.args.kind c.args.frame.now z).samples) same;
+    })
     _ c.span_behind.result (g.K.Sink.held c.args.output.now) (g.K.Sink.held c.write_cut.new.output)
     (c.play_frame.auto.out ∙ c.split_at_mut-samples.ensures.front_len ∙ ap (λ n. 120 * 2 ^ c.args.kind.lm % 18446744073709551616 * n) c.from.ensures)
     c.span_behind.ensures c.in-Ok.ensures.bytes
@@ -29,7 +31,9 @@ returns-in-Err-clause-plays g c =
     let h = c.requires.playing.gain in
     let same = to_z-of_z {w = w32} {z = c.args.playing.gain} (fits_signed_from_abs w32 c.args.playing.gain (omega (arith, ints, h))) in
     frame_fails c.args.decoder.now c.play_frame.new.decoder c.args.playing c.args.kind c.args.frame.now c.play_frame.new.out
-    (record { playing = c.requires.playing; 
+    (record {
+      playing = c.requires.playing;
       now_is = c.play_frame.ensures.state ∙ ap (λ z. with_state d (played_by d c.args.kind c.args.frame.now z).state) same;
-      out_is = c.play_frame.ensures.samples ∙ ap (λ z. (played_by d c.args.kind c.args.frame.now z).samples) same })
+      out_is = c.play_frame.ensures.samples ∙ ap (λ z. (played_by d c.args.kind c.args.frame.now z).samples) same;
+    })
     (g.K.Sink.held c.args.output.now) (g.K.Sink.held c.write_cut.new.output) c.in-Err.ensures.bytes
