@@ -16,4 +16,4 @@ mod signals;
 mod streams;
 
 pub use decoder::Decoder;
-pub use laws::{law_left, law_shared};
+pub use laws::{law_frame, law_inversion, law_left, law_shared};
