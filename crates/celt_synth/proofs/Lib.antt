@@ -4,6 +4,7 @@ pub mod BlockLemmas
 pub mod CollapseLemmas
 pub mod ConcealmentLemmas
 pub mod FilterLemmas
+pub mod FrameLemmas
 pub mod GridLemmas
 pub mod LeftLemmas
 pub mod ReadingLemmas

@@ -172,16 +172,3 @@ unfolding step made_of
 step_sounding stream kind heard shaped gain s es e h =
     ap (λ x. stepped stream kind gain (made_sounding kind heard (shaped s.seed) x s) s) h
     ∙ ap (λ t. stepped stream kind gain (if t then made_silent kind heard.range (silent_energies kind s.energies) else made_sounding kind heard (shaped s.seed) (heard.changed (greater kind.channels s.energies)) s) s) (sym e)
-
--- the step of the bytes that were read
-pub step_read : (stream : ℕ) (invert : Bool) (kind : Kind) (frame : List ℕ) (gain : ℤ) (s : State) (range : ℕ) → 2 ≤ length frame → range ≡ range_of kind frame
-    → step stream kind (heard_of kind range (reading_of kind frame).value) (shaped_of kind (reading_of kind frame).value invert) gain s ≡ frame_step stream invert kind frame gain s
-unfolding frame_step
-step_read stream invert kind frame gain s range some e =
-    ap (λ r. step stream kind (heard_of kind r (reading_of kind frame).value) (shaped_of kind (reading_of kind frame).value invert) gain s) e ∙ by_test (nat_lt (length frame) 2) refl
-  where
-    by_test : (t : Bool) → nat_lt (length frame) 2 ≡ t
-        → step stream kind (heard_of kind (range_of kind frame) (reading_of kind frame).value) (shaped_of kind (reading_of kind frame).value invert) gain s
-        ≡ (if t then conceal stream kind gain s else step stream kind (heard_of kind (range_of kind frame) (reading_of kind frame).value) (shaped_of kind (reading_of kind frame).value invert) gain s)
-    by_test true h = absurd (grind (arith, nat_tests))
-    by_test false h = refl

@@ -295,14 +295,15 @@ impl Model for Decoder {
 }
 
 impl Decoder {
-    ghost use Rattle.std.specs.Prelude.{◌≡◌, ◌*◌, ◌^◌, ◌≤◌, ◌<◌, ◌≤ℤ◌, ◌<ℤ◌, ℕ, pos, get_or, Option, unsigned_abs, length, All, IfOk};
+    ghost use Rattle.std.specs.Prelude.{◌≡◌, ◌*◌, ◌^◌, ◌≤◌, ◌<◌, ◌≤ℤ◌, ◌<ℤ◌, ℕ, List, pos, get_or, Option, unsigned_abs, length, All, IfOk};
     ghost use Rattle.mdct_fixed.specs.Mdct.{IsSize};
     ghost use Rattle.band_plan.specs.Shapes.{HasTrees};
     ghost use Rattle.frame_symbols.specs.Frames.{Sound};
     ghost use Rattle.frame_symbols.specs.Held.{HoldsFrame};
+    ghost use Rattle.frame_symbols.specs.HeldSymbols.{AreRead};
     ghost use Rattle.celt_synth.specs.Blocks.{blocks_of};
     ghost use Rattle.celt_synth.specs.Decoders.{with_state, state_sounded, samples_sounded, state_ended, IsMade, Hears};
-    ghost use Rattle.celt_synth.specs.Readings.{heard_of, shaped_of, IsShaped};
+    ghost use Rattle.celt_synth.specs.Readings.{heard_of, shaped_of, frame_step, IsShaped};
     ghost use Rattle.celt_synth.specs.Shapes.{Shaped};
     ghost use Rattle.celt_synth.specs.Shared.{Heard, silent_energies};
     ghost use Rattle.celt_synth.specs.States.{State, start};
@@ -383,6 +384,8 @@ impl Decoder {
         requires out { length out.old ≡ 120 * blocks_of kind * self.old.channels }
         ensures state { (value : Option Sound) → HoldsFrame kind s.now.fields value → self.new ≡ with_state self.old (step self.old.channels kind (heard_of kind s.now.range value) (shaped_of kind value self.old.invert) gain self.old.state).state }
         ensures samples { (value : Option Sound) → HoldsFrame kind s.now.fields value → out.new ≡ (step self.old.channels kind (heard_of kind s.now.range value) (shaped_of kind value self.old.invert) gain self.old.state).samples }
+        ensures read_state { (frame : List ℕ) → 2 ≤ length frame → AreRead kind frame s.now → self.new ≡ with_state self.old (frame_step self.old.channels self.old.invert kind frame gain self.old.state).state }
+        ensures read_samples { (frame : List ℕ) → 2 ≤ length frame → AreRead kind frame s.now → out.new ≡ (frame_step self.old.channels self.old.invert kind frame gain self.old.state).samples }
     {
         if s.silent() {
             return self.rest(kind, s.range(), gain, out);

@@ -10,10 +10,14 @@ mod collapse;
 mod concealment;
 mod decoder;
 mod filters;
+#[cfg(test)]
+mod given;
 mod laws;
 mod rows;
 mod signals;
 mod streams;
+#[cfg(test)]
+mod tests;
 
 pub use decoder::Decoder;
-pub use laws::{law_left, law_shared};
+pub use laws::{law_frame, law_inversion, law_left, law_shared};

@@ -2,11 +2,13 @@ use Rattle.std.proofs.Common.{◌≡◌, ◌∙◌, ap, sym, subst, false, true,
 use Rattle.std.specs.Prelude.{◌<ℤ◌}
 use Rattle.std.proofs.lemmas.Int.{to_z-of_z, fits_signed_from_abs}
 use Rattle.band_energy.specs.EnergyValues.{energies_of}
+use Rattle.frame_symbols.specs.Readings.{reading_of}
 use Rattle.celt_synth.specs.Decoders.{with_state}
 use Rattle.celt_synth.specs.Readings.{heard_of, shaped_of}
 use Rattle.celt_synth.specs.Rows.{greater}
 use Rattle.celt_synth.specs.Shared.{silent_energies}
 use Rattle.celt_synth.specs.Steps.{made_silent, made_sounding, shapes_in, state_after, samples_of}
+use Rattle.celt_synth.proofs.FrameLemmas.{step_read}
 use Rattle.celt_synth.proofs.ReadingLemmas.{suits_held, hears_held, changed_held, not_silent, step_silent, step_sounding, pulses_most}
 use Rattle.celt_synth.proofs.decoder.Decoder.frame.Goals as goal
 
@@ -78,3 +80,23 @@ returns-clause-samples c = λ value h.
     r
     ∙ (λ k. samples_of (v k).channels kind c.args.gain (made_sounding kind heard shaped c.apply.new.energies (v k).state) (v k).state)
     ∙ ap (λ p. p.samples) (step_sounding d.channels kind heard (shaped_of kind value d.invert) c.args.gain d.state c.apply.new.energies (not_silent kind f range value h e) es)
+
+pub returns-then-silent-clause-read_state : goal.returns-then-silent-clause-read_state
+returns-then-silent-clause-read_state c = λ frame some r.
+    let d = c.args.self.now in
+    returns-then-silent-clause-state c (reading_of c.args.kind frame).value r.holds ∙ ap (λ p. with_state d p.state) (step_read d.channels d.invert c.args.kind frame c.args.gain d.state c.args.s.now.range some r.range_is)
+
+pub returns-then-silent-clause-read_samples : goal.returns-then-silent-clause-read_samples
+returns-then-silent-clause-read_samples c = λ frame some r.
+    let d = c.args.self.now in
+    returns-then-silent-clause-samples c (reading_of c.args.kind frame).value r.holds ∙ ap (λ p. p.samples) (step_read d.channels d.invert c.args.kind frame c.args.gain d.state c.args.s.now.range some r.range_is)
+
+pub returns-clause-read_state : goal.returns-clause-read_state
+returns-clause-read_state c = λ frame some r.
+    let d = c.args.self.now in
+    returns-clause-state c (reading_of c.args.kind frame).value r.holds ∙ ap (λ p. with_state d p.state) (step_read d.channels d.invert c.args.kind frame c.args.gain d.state c.args.s.now.range some r.range_is)
+
+pub returns-clause-read_samples : goal.returns-clause-read_samples
+returns-clause-read_samples c = λ frame some r.
+    let d = c.args.self.now in
+    returns-clause-samples c (reading_of c.args.kind frame).value r.holds ∙ ap (λ p. p.samples) (step_read d.channels d.invert c.args.kind frame c.args.gain d.state c.args.s.now.range some r.range_is)
