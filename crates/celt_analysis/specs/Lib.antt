@@ -1,0 +1,6 @@
+pub mod Analyses
+pub mod Energies
+pub mod Signals
+pub mod Spectra
+pub mod Sums
+pub mod Transients
