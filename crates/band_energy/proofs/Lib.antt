@@ -5,3 +5,4 @@ pub mod RawSteps
 pub mod ValueSteps
 pub mod ValueRows
 pub mod EnergyLaws
+pub mod WantedSteps

@@ -52,7 +52,7 @@ pub record EnergyFits (z : ℤ) : Type 0 where
   pub sum : FitsSigned w64 (z +ℤ pos 64)
   pub shift : FitsSigned w64 (int_shr (z +ℤ pos 64) 7)
 
-pub energy_fits : (z : ℤ) → neg_ℤ (pos (28 * 2 ^ 17)) ≤ℤ z → z ≤ℤ pos (121 * 2 ^ 33) → EnergyFits z
+pub energy_fits : (z : ℤ) → neg_ℤ (pos (28 * 2 ^ 17)) ≤ℤ z → z ≤ℤ pos (126 * 2 ^ 33) → EnergyFits z
 energy_fits z low high =
     let small : unsigned_abs (z +ℤ pos 64) ≤ 2 ^ 49 = omega (arith, ints) in
     let s = shr_within (z +ℤ pos 64) 7 (2 ^ 49) small in record {

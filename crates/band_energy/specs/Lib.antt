@@ -1,3 +1,4 @@
 pub mod EnergyRows
 pub mod EnergyScripts
 pub mod EnergyValues
+pub mod WantedEnergies

@@ -14,6 +14,7 @@ mod laws;
 #[cfg(test)]
 mod tests;
 mod values;
+mod wanted;
 
 pub use coarse_walk::coarse;
 pub use energy::Energy;
@@ -21,3 +22,7 @@ pub use fine_walk::fine;
 pub use last_walk::last;
 pub use laws::{law_energy_entries, law_energy_questions, law_intra_energies, law_last_bits};
 pub use values::apply;
+pub use wanted::{
+    EnergyPlace, LogEnergy, Wanted, energy_by_coarse, energy_by_fine, wanted_coarse, wanted_fine,
+    wanted_last,
+};

@@ -35,7 +35,7 @@ struct BandAnswers {
 }
 
 // The standard's alpha (Q15): how much of the energy before in time is kept.
-fn alpha(lm: u8, intra: bool) -> u32
+pub(crate) fn alpha(lm: u8, intra: bool) -> u32
     ensures value { result ≡ alpha_of lm intra }
     ensures most { result ≤ 29440 }
 {
@@ -51,7 +51,7 @@ fn alpha(lm: u8, intra: bool) -> u32
 }
 
 // The standard's beta (Q15): how much of each coarse value the bands above lose again.
-fn beta(lm: u8, intra: bool) -> u32
+pub(crate) fn beta(lm: u8, intra: bool) -> u32
     ensures value { result ≡ beta_of lm intra }
     ensures most { result ≤ 2 ^ 15 }
 {
@@ -91,7 +91,7 @@ fn counted(old: i64) -> i64
 }
 
 // What is kept of the energy before in time (units of 2^-17).
-fn kept(alpha: u32, old: i64) -> i64
+pub(crate) fn kept(alpha: u32, old: i64) -> i64
     requires alpha { alpha ≤ 29440 }
     requires old { IsEnergy old }
     ensures value { result ≡ kept_of alpha old }
@@ -102,11 +102,11 @@ fn kept(alpha: u32, old: i64) -> i64
 }
 
 // The energy of a sum in units of 2^-17.
-fn energy_from(sum: i64) -> i64
-    requires { sum ≤ℤ pos (121 * 2 ^ 33) }
+pub(crate) fn energy_from(sum: i64) -> i64
+    requires { sum ≤ℤ pos (126 * 2 ^ 33) }
     ensures value { result ≡ energy_from sum }
     ensures least { neg_ℤ (pos 28672) ≤ℤ result }
-    ensures most { result ≤ℤ pos (121 * 2 ^ 26) }
+    ensures most { result ≤ℤ pos (126 * 2 ^ 26) }
 {
     (sum.max(-28 * (1 << 17)) + 64) >> 7
 }
@@ -144,7 +144,7 @@ fn coarse_energy(alpha: u32, old: i64, carried: i64, value: i32) -> i64
     requires value { unsigned_abs value ≤ 2 ^ 14 }
     ensures value { result ≡ coarse_of alpha old carried value }
     ensures least { neg_ℤ (pos 28672) ≤ℤ result }
-    ensures most { result ≤ℤ pos (121 * 2 ^ 26) }
+    ensures most { result ≤ℤ pos (126 * 2 ^ 26) }
 {
     energy_from(kept(alpha, old) + carried + i64::from(value) * (1 << 17))
 }

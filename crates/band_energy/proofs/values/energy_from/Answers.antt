@@ -11,8 +11,8 @@ returns-clause-value c =
     let o = c.ranges.sum in
     let m : FitsSigned w64 c.max.result = record { sfits = c.max.type_inv } in
     let v : c.max.result ≡ int_max c.args.sum (neg_ℤ (pos (28 * 2 ^ 17))) = simp to_z-of_z at c.max.ensures.value in
-    let high : c.max.result ≤ℤ pos (121 * 2 ^ 33) =
-    max_most c.args.sum (neg_ℤ (pos (28 * 2 ^ 17))) (pos (121 * 2 ^ 33)) c.max.result v c.requires (omega (arith, ints)) in
+    let high : c.max.result ≤ℤ pos (126 * 2 ^ 33) =
+    max_most c.args.sum (neg_ℤ (pos (28 * 2 ^ 17))) (pos (126 * 2 ^ 33)) c.max.result v c.requires (omega (arith, ints)) in
     let fits = energy_fits c.max.result c.max.ensures.other_bound high in
     let s = fits.sum in
     let r = fits.shift in
