@@ -9,6 +9,7 @@ pub mod GridLemmas
 pub mod LeftLemmas
 pub mod ReadingLemmas
 pub mod RowLemmas
+pub mod SharingLemmas
 pub mod SignalLemmas
 pub mod StepLemmas
 pub mod StreamLemmas

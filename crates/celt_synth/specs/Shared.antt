@@ -2,6 +2,7 @@
 use Rattle.std.specs.Prelude.{ℕ, nat_eq, Bool, if◌then◌else◌, ℤ, List}
 use Rattle.celt_base.specs.declared.kind.Kind.{Kind}
 use Rattle.celt_base.specs.declared.state.Setting.{Setting}
+use Rattle.celt_base.specs.declared.state.Shared.{Shared}
 use Rattle.celt_synth.specs.Concealment.{noise_shapes, concealed_energies}
 use Rattle.celt_synth.specs.Rows.{greater, silenced, energies_after}
 use Rattle.celt_synth.specs.States.{State, off}
@@ -15,8 +16,12 @@ pub record SharedState : Type 0 where
   pub before : Setting
   pub now : Setting
 
+-- of a decoder's state, and as an encoder has it
 abbrev pub shared_of : State → SharedState
 shared_of s = record { range = s.range; energies = s.energies; seed = s.seed; before = s.before; now = s.now }
+
+abbrev pub shared_in : Shared → SharedState
+shared_in s = record { range = s.range; energies = s.energies; seed = s.seed; before = s.before; now = s.now }
 
 -- What was read of a frame, as far as the frame step asks: `changed` is what its answers make of the energies before, and
 -- `pulses` the eighths of a bit of each band's shape.

@@ -16,6 +16,7 @@ use crate::channels::{ChannelBuffer, Tables};
 use crate::concealment::fill_frame;
 use crate::filters::Output;
 use crate::rows::{FLOOR, keep_rows, lower, silence, take_greater};
+use crate::sharing::setting_before;
 use crate::signals::Form;
 use crate::streams::{to_mono, to_stereo};
 use band_energy::apply;
@@ -112,13 +113,6 @@ fn least_energies() -> [[i64; 21]; 2]
     ensures energies { AreEnergies result }
 {
     [[FLOOR; 21]; 2]
-}
-
-// The setting from which the first fade of the next frame goes.
-fn setting_before(kind: Kind, now: Setting, frame: Setting) -> Setting
-    ensures { result ≡ (if nat_eq kind.lm 0 then now else frame) }
-{
-    if kind.lm == 0 { now } else { frame }
 }
 
 // The spectrum of a channel of a frame.
@@ -305,7 +299,7 @@ impl Decoder {
     ghost use Rattle.celt_synth.specs.Decoders.{with_state, state_sounded, samples_sounded, state_ended, IsMade, Hears};
     ghost use Rattle.celt_synth.specs.Readings.{heard_of, shaped_of, frame_step, IsShaped};
     ghost use Rattle.celt_synth.specs.Shapes.{Shaped};
-    ghost use Rattle.celt_synth.specs.Shared.{Heard, silent_energies};
+    ghost use Rattle.celt_synth.specs.Shared.{Heard, shared_in, shared_of, silent_energies};
     ghost use Rattle.celt_synth.specs.States.{State, start};
     ghost use Rattle.celt_synth.specs.Steps.{Made, made_silent, made_sounding, state_after, samples_of, step, conceal};
 
@@ -366,6 +360,7 @@ impl Decoder {
         ensures seed { result.seed ≡ self.entry.now.state.seed }
         ensures before { result.before ≡ self.entry.now.state.before }
         ensures now { result.now ≡ self.entry.now.state.now }
+        ensures shared { shared_in result ≡ shared_of self.entry.now.state }
     {
         Shared {
             range: self.range,

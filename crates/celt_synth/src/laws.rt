@@ -1,15 +1,17 @@
 //! Laws of the definitions alone. No body does anything.
-ghost use Rattle.std.specs.Prelude.{◌≡◌, ℕ, ℤ, Bool, List, length, ◌*◌, ◌<◌, ◌≤◌};
+ghost use Rattle.std.specs.Prelude.{◌≡◌, ℕ, ℤ, pos, Bool, List, length, replicate, ◌*◌, ◌<◌, ◌≤◌};
 ghost use Rattle.celt_base.specs.declared.kind.Kind.{Kind};
+ghost use Rattle.celt_base.specs.declared.state.Shared.{Shared};
 ghost use Rattle.celt_base.specs.Questions.{Answered};
+ghost use Rattle.celt_base.specs.States.{IsOff};
 ghost use Rattle.fixed_math.specs.Items.{item};
 ghost use Rattle.frame_symbols.specs.Readings.{IsReading, reading_of, range_of};
 ghost use Rattle.celt_synth.specs.Blocks.{blocks_of};
 ghost use Rattle.celt_synth.specs.LeftChannels.{AgreeLeft, AgreeShapes};
 ghost use Rattle.celt_synth.specs.Readings.{heard_of, shaped_of, frame_step, share_by};
 ghost use Rattle.celt_synth.specs.Shapes.{Shaped};
-ghost use Rattle.celt_synth.specs.Shared.{Heard, shared_of, share, share_concealed};
-ghost use Rattle.celt_synth.specs.States.{State};
+ghost use Rattle.celt_synth.specs.Shared.{SharedState, Heard, shared_of, shared_in, share, share_concealed};
+ghost use Rattle.celt_synth.specs.States.{State, start};
 ghost use Rattle.celt_synth.specs.Steps.{step, conceal};
 
 /// What encoder and decoder share after a frame depends on what they shared before and on the frame alone: neither on its
@@ -42,4 +44,11 @@ pub fn law_frame()
 pub fn law_inversion()
     ensures state { (a b : Bool) (kind : Kind) (frame : List ℕ) (gain : ℤ) (s t : State) → AgreeLeft s t → AgreeLeft (frame_step 2 a kind frame gain s).state (frame_step 2 b kind frame gain t).state }
     ensures samples { (a b : Bool) (kind : Kind) (frame : List ℕ) (gain : ℤ) (s t : State) → AgreeLeft s t → (p : ℕ) → p < 120 * blocks_of kind → item (frame_step 2 a kind frame gain s).samples (2 * p) ≡ item (frame_step 2 b kind frame gain t).samples (2 * p) }
+{}
+
+/// An encoder and its decoder that share their state before a frame share it after the frame too, whatever the stream's
+/// channels, inversion and gain are: both states are `share_by` of the frame's answers. At the start both are the same.
+pub fn law_share()
+    ensures start { (x : Shared) → x.range ≡ 0 → x.energies ≡ replicate 2 (replicate 21 (pos 0)) → x.seed ≡ 0 → IsOff x.before → IsOff x.now → shared_in x ≡ shared_of start }
+    ensures same { (stream : ℕ) (invert : Bool) (kind : Kind) (frame : List ℕ) (list : List Answered) (gain : ℤ) (s : State) (x : SharedState) → 2 ≤ length frame → IsReading kind frame list → x ≡ shared_of s → share_by kind (length frame) list x ≡ shared_of (frame_step stream invert kind frame gain s).state }
 {}

@@ -14,10 +14,13 @@ mod filters;
 mod given;
 mod laws;
 mod rows;
+mod sharing;
 mod signals;
 mod streams;
 #[cfg(test)]
 mod tests;
 
 pub use decoder::Decoder;
-pub use laws::{law_frame, law_inversion, law_left, law_shared};
+pub use laws::{law_frame, law_inversion, law_left, law_share, law_shared};
+pub use rows::take_greater;
+pub use sharing::share;

@@ -226,3 +226,13 @@ pub fn keep_rows(
     clear_both(older1, kind.end, FLOOR);
     clear_both(older2, kind.end, FLOOR);
 }
+
+/// The energies after a frame alone, as `keep_rows` leaves them.
+pub fn keep_energies(energies: &mut [[i64; 21]; 2], kind: Kind)
+    requires { AreEnergies energies.old }
+    ensures value { energies.new ≡ energies_after kind.channels kind.end energies.old }
+    ensures bounds { AreEnergies energies.new }
+{
+    copy_mono(energies, kind);
+    clear_both(energies, kind.end, 0);
+}

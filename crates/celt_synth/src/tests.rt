@@ -3,11 +3,11 @@
 ghost use Rattle.std.specs.Prelude.{◌≡◌, ◌*◌, ◌≤◌, unsigned_abs, length};
 ghost use Rattle.celt_synth.specs.Blocks.{blocks_of};
 
-use crate::Decoder;
 use crate::anti_collapse::blocks;
 use crate::given::STREAMS;
+use crate::{Decoder, share};
 use celt_base::kind::Kind;
-use celt_base::state::Shared;
+use celt_base::state::{Setting, Shared};
 use celt_base::status::OutOfMemory;
 use frame_symbols::{Symbols, read_frame};
 
@@ -84,7 +84,7 @@ fn frame_of_hex(word: &str) -> Frame {
     Frame { bytes, len }
 }
 
-// Decodes a frame.
+// Decodes a frame. Answers what its symbols say that encoder and decoder share.
 fn decode(
     decoder: &mut Decoder,
     symbols: &mut Symbols,
@@ -92,17 +92,20 @@ fn decode(
     frame: &Frame,
     gain: i32,
     out: &mut [i16],
-)
+) -> Shared
     requires gain { unsigned_abs gain ≤ 32768 }
     requires out { length out.old ≡ 120 * blocks_of kind * decoder.old.channels }
     ensures { decoder.new.channels ≡ decoder.old.channels }
 {
     if frame.len < 2 {
-        return decoder.conceal(kind, gain, out);
+        decoder.conceal(kind, gain, out);
+        return decoder.state();
     }
+    let before = decoder.state();
     let (bytes, _) = frame.bytes.split_at(frame.len);
     read_frame(bytes, kind, symbols);
     decoder.frame(kind, symbols, gain, out);
+    share(kind, symbols, &before)
 }
 
 // A digest with one number more.
@@ -139,7 +142,7 @@ fn digest_of(out: &[i16], state: Shared) -> u64 {
     digest
 }
 
-// Decodes a frame, and answers its digest.
+// Decodes a frame, and answers its digest; None where its state is not what its symbols say.
 fn digest(
     decoder: &mut Decoder,
     symbols: &mut Symbols,
@@ -147,7 +150,7 @@ fn digest(
     frame: &Frame,
     gain: i32,
     channels: u8,
-) -> u64
+) -> Option<u64>
     requires gain { unsigned_abs gain ≤ 32768 }
     requires channels { channels ≡ decoder.old.channels }
     requires most { channels ≤ 2 }
@@ -155,8 +158,11 @@ fn digest(
 {
     let mut room = [0i16; 1920];
     let (out, _) = room.split_at_mut(120 * blocks(kind) * usize::from(channels));
-    decode(decoder, symbols, kind, frame, gain, out);
-    digest_of(out, decoder.state())
+    let shared = decode(decoder, symbols, kind, frame, gain, out);
+    if shared != decoder.state() {
+        return None;
+    }
+    Some(digest_of(out, shared))
 }
 
 // Whether the next frame of a row gives what the row says.
@@ -176,7 +182,7 @@ fn follows(
         return false;
     };
     let frame = frame_of_hex(words.next());
-    digest(decoder, symbols, kind, &frame, gain, channels) == words.number()
+    digest(decoder, symbols, kind, &frame, gain, channels) == Some(words.number())
 }
 
 // How many frames of a row give what the row says; the first one that does not ends it.
@@ -284,5 +290,41 @@ fn restarted(rt: HostRuntime) -> Result<(), OutOfMemory> {
         first
     );
     assert!(rt; first != second);
+    Ok(())
+}
+
+// The energies behind the first frame, by the numbers of a program apart from this one.
+const MONO_ENERGIES: [i64; 21] = [
+    54_400, 70_580, 71_245, 70_887, 72_423, 71_988, 70_964, 69_069, 67_329, 68_148, 65_588, 65_895,
+    65_895, 66_407, 65_895, 66_151, 66_151, 65_127, 66_304, 66_151, 67_175,
+];
+
+// Shares the symbols of a frame.
+fn shared_after(
+    symbols: &mut Symbols,
+    kind: Kind,
+    frame: &Frame,
+    before: &Shared,
+) -> Option<Shared> {
+    if frame.len < 2 {
+        return None;
+    }
+    let (bytes, _) = frame.bytes.split_at(frame.len);
+    read_frame(bytes, kind, symbols);
+    Some(share(kind, symbols, before))
+}
+
+#[test]
+fn shared(rt: HostRuntime) -> Result<(), OutOfMemory> {
+    let mut symbols = Symbols::new(rt.alloc())?;
+    let kind = Kind::of_toc(248).expect(&rt, "fullband, 960 samples, mono");
+    let frame = frame_of_hex(MONO);
+    let got = shared_after(&mut symbols, kind, &frame, &Shared::start()).expect(
+        &rt,
+        "a frame of 30 bytes",
+    );
+    assert_eq!(rt; (got.range, got.seed), (0x0081_bd40, 0x0081_bd40));
+    assert_eq!(rt; got.energies, [MONO_ENERGIES; 2]);
+    assert_eq!(rt; (got.before, got.now), (Setting::off(), Setting::off()));
     Ok(())
 }
