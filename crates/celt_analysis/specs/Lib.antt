@@ -1,5 +1,7 @@
 pub mod Analyses
 pub mod Energies
+pub mod Pitch
+pub mod Search
 pub mod Signals
 pub mod Spectra
 pub mod Sums

@@ -3,8 +3,17 @@
 #![tactic(auto)]
 
 mod analysis;
+mod downmix;
+mod estimate;
+mod karatsuba;
+mod pitches;
+mod search;
+mod slide;
 mod spectra;
+mod sums;
 #[cfg(test)]
 mod tests;
 
 pub use analysis::Analysis;
+pub use pitches::pitch;
+pub use slide::Slide;

@@ -1,0 +1,167 @@
+//! Correlations of a list with another at each of many places, modulo 2^32, by the method of Karatsuba: three of half the
+//! size in place of four, down to 64 places.
+ghost use Rattle.std.specs.Prelude.{◌≡◌, ◌⊎◌, ℕ, ◌+◌, ◌-◌, ◌*◌, ◌^◌, ◌<◌, ◌≤◌, ℤ, pos, ◌+ℤ◌, ◌-ℤ◌, unsigned_abs, length};
+ghost use Rattle.std.specs.Int.{int_wrap, w32};
+ghost use Rattle.fixed_math.specs.Items.{item};
+ghost use Rattle.celt_analysis.specs.Sums.{correlation};
+
+use std::simd::prelude::*;
+
+// The fewest places.
+const FEWEST: usize = 64;
+
+// Writes from `to` on the differences of `n` items from `a` on and those from `b` on.
+fn differences(s: &mut [i16], a: usize, b: usize, to: usize, n: usize)
+    requires first { a + n ≤ to }
+    requires second { b + n ≤ to }
+    requires room { to + n ≤ length s.old }
+    requires first_sizes { (i : ℕ) → i < n → unsigned_abs (item s.old (a + i)) < 2 ^ 14 }
+    requires second_sizes { (i : ℕ) → i < n → unsigned_abs (item s.old (b + i)) < 2 ^ 14 }
+    ensures items { (i : ℕ) → i < n → item s.new (to + i) ≡ item s.old (a + i) -ℤ item s.old (b + i) }
+    ensures others { (k : ℕ) → (k < to) ⊎ (to + n ≤ k) → item s.new k ≡ item s.old k }
+    ensures length { length s.new ≡ length s.old }
+{
+    for i in 0..n {
+        s[to + i] = s[a + i] - s[b + i];
+    }
+}
+
+// Writes from `to` on the sums of `n` items from `a` on and those from `b` on.
+fn sums(s: &mut [i16], a: usize, b: usize, to: usize, n: usize)
+    requires first { a + n ≤ to }
+    requires second { b + n ≤ to }
+    requires room { to + n ≤ length s.old }
+    requires first_sizes { (i : ℕ) → i < n → unsigned_abs (item s.old (a + i)) < 2 ^ 14 }
+    requires second_sizes { (i : ℕ) → i < n → unsigned_abs (item s.old (b + i)) < 2 ^ 14 }
+    ensures items { (i : ℕ) → i < n → item s.new (to + i) ≡ item s.old (a + i) +ℤ item s.old (b + i) }
+    ensures others { (k : ℕ) → (k < to) ⊎ (to + n ≤ k) → item s.new k ≡ item s.old k }
+    ensures length { length s.new ≡ length s.old }
+{
+    for i in 0..n {
+        s[to + i] = s[a + i] + s[b + i];
+    }
+}
+
+// Adds to the items from `to` on those from `from` on.
+fn add_all(out: &mut [i32], to: usize, from: usize, n: usize)
+    requires room { to + n ≤ from }
+    requires count { from + n ≤ length out.old }
+    ensures items { (i : ℕ) → i < n → item out.new (to + i) ≡ int_wrap w32 (item out.old (to + i) +ℤ item out.old (from + i)) }
+    ensures others { (k : ℕ) → (k < to) ⊎ (to + n ≤ k) → item out.new k ≡ item out.old k }
+    ensures length { length out.new ≡ length out.old }
+{
+    for i in 0..n {
+        out[to + i] = out[to + i].wrapping_add(out[from + i]);
+    }
+}
+
+// A sum of eight products, formed side by side.
+fn eight(s: &[i16], i: usize, j: usize, free: usize) -> i32
+    requires first { i + 8 ≤ free }
+    requires second { j + 8 ≤ free }
+    requires free { free ≤ length s.now }
+    requires sizes { (k : ℕ) → k < free → unsigned_abs (item s.now k) < 2 ^ 15 }
+    ensures { result ≡ int_wrap w32 (correlation (item s.now) (item s.now) i j 8) }
+{
+    let a = i16x8::from_slice(&s[i..]);
+    let b = i16x8::from_slice(&s[j..]);
+    let products = a.cast::<i32>() * b.cast::<i32>();
+    let pairs = products.swizzle([0, 2, 4, 6]) + products.swizzle([1, 3, 5, 7]);
+    pairs.reduce_sum()
+}
+
+// A sum of 64 products.
+fn product_sum(s: &[i16], at: usize, from: usize, free: usize) -> i32
+    requires first { at + 64 ≤ free }
+    requires second { from + 64 ≤ free }
+    requires free { free ≤ length s.now }
+    requires sizes { (k : ℕ) → k < free → unsigned_abs (item s.now k) < 2 ^ 15 }
+    ensures { result ≡ int_wrap w32 (correlation (item s.now) (item s.now) at from 64) }
+{
+    let mut sum: i32 = 0;
+    for k in 0..8usize {
+        sum = sum.wrapping_add(eight(s, at + 8 * k, from + 8 * k, free));
+    }
+    sum
+}
+
+// The sums at 64 places.
+fn correlate_short(s: &[i16], at: usize, from: usize, free: usize, out: &mut [i32], to: usize)
+    requires first { at + 128 ≤ free }
+    requires second { from + 64 ≤ free }
+    requires free { free ≤ length s.now }
+    requires sizes { (k : ℕ) → k < free → unsigned_abs (item s.now k) < 2 ^ 15 }
+    requires room { to + 64 ≤ length out.old }
+    ensures items { (t : ℕ) → t < 64 → item out.new (to + t) ≡ int_wrap w32 (correlation (item s.now) (item s.now) (at + t) from 64) }
+    ensures others { (k : ℕ) → (k < to) ⊎ (to + 64 ≤ k) → item out.new k ≡ item out.old k }
+    ensures length { length out.new ≡ length out.old }
+{
+    for t in 0..FEWEST {
+        out[to + t] = product_sum(s, at + t, from, free);
+    }
+}
+
+// The sums of products at `h` places from `at` on with the `h` items from `from` on. What stands from `free` and from
+// `spare` on is room for the halves.
+pub(crate) fn correlate(
+    s: &mut [i16],
+    at: usize,
+    from: usize,
+    free: usize,
+    halvings: u32,
+    h: usize,
+    out: &mut [i32],
+    to: usize,
+    spare: usize,
+)
+    requires power { h ≡ 64 * 2 ^ halvings }
+    requires first { at + 2 * h ≤ free }
+    requires second { from + h ≤ free }
+    requires free { free + 5 * h ≤ length s.old }
+    requires room { to + h ≤ spare }
+    requires spare { spare + h ≤ length out.old }
+    requires sizes { (i : ℕ) → i < free → unsigned_abs (item s.old i) * h < 2 ^ 21 }
+    ensures items { (t : ℕ) → t < h → item out.new (to + t) ≡ int_wrap w32 (correlation (item s.old) (item s.old) (at + t) from h) }
+    ensures below { (k : ℕ) → k < to → item out.new k ≡ item out.old k }
+    ensures behind { (k : ℕ) → to + h ≤ k → k < spare → item out.new k ≡ item out.old k }
+    ensures length { length out.new ≡ length out.old }
+    ensures kept { (k : ℕ) → k < free → item s.new k ≡ item s.old k }
+    ensures s_length { length s.new ≡ length s.old }
+{
+    if halvings == 0 {
+        correlate_short(s, at, from, free, out, to);
+        return;
+    }
+    let q = h / 2;
+    let a = free + q;
+    let b = a + h;
+    let next = b + h;
+    sums(s, from, from + q, free, q);
+    differences(s, at, at + q, a, h);
+    differences(s, at + h, at + q, b, h);
+    correlate(
+        s,
+        at + q,
+        free,
+        next,
+        halvings - 1,
+        q,
+        out,
+        spare,
+        spare + q,
+    );
+    correlate(s, a, from, next, halvings - 1, q, out, to, spare + q);
+    correlate(
+        s,
+        b,
+        from + q,
+        next,
+        halvings - 1,
+        q,
+        out,
+        to + q,
+        spare + q,
+    );
+    add_all(out, to, spare, q);
+    add_all(out, to + q, spare, q);
+}
