@@ -19,7 +19,7 @@ use Rattle.celt_base.specs.WalkScripts.{Done, and_then, asks_at, row_of, rows_of
 use Rattle.celt_base.proofs.WalkOrders.{most_more, most_then, most_each, most_table, most_answer, most_value}
 use Rattle.band_energy.specs.declared.energy.Energy.{Energy}
 use Rattle.band_energy.specs.EnergyScripts.{question_for, value_script, coarse_at, coarse_script, bits_script, fine_at, fine_script, is_same, is_in_round, bands_in, is_reached, last_bit, last_at, round_script, rounds_script, rows_either, last_script}
-use Rattle.band_energy.specs.EnergyValues.{kept_of, energy_by, energy_at, energies_of, carried, energy_from, fine_of, last_of}
+use Rattle.band_energy.specs.EnergyValues.{alpha_of, beta_of, kept_of, energy_by, energy_at, energies_of, carried, energy_from, fine_of, last_of}
 use Rattle.celt_base.proofs.BandEnds.{end_most}
 use Rattle.band_energy.proofs.LastRounds.{bands_rise, both_rounds}
 
@@ -60,12 +60,15 @@ and_true : (a b : Bool) → a ≡ true → b ≡ true → (a && b) ≡ true
 and_true true b is_a is_b = is_b
 and_true false b is_a is_b = is_a
 
-coded : (kind : Kind) (a : Allocation) (e : Energy) (old : List (List ℤ)) (channel band : ℕ)
+pub coded : (kind : Kind) (intra : Bool) (a : Allocation) (e : Energy) (old : List (List ℤ)) (channel band : ℕ)
     → channel < kind.channels → band < kind.end
-    → energy_at kind true a e old channel band ≡ energy_by 0 4915 a.fine e channel (get_or old channel []) band
+    → energy_at kind intra a e old channel band
+    ≡ energy_by (alpha_of kind.lm intra) (beta_of kind.lm intra) a.fine e channel (get_or old channel []) band
 unfolding energy_at
-coded kind a e old channel band below inside =
-    ap (λ t. if t then energy_by 0 4915 a.fine e channel (get_or old channel []) band else get_or (get_or old channel []) band (pos 0))
+coded kind intra a e old channel band below inside =
+    ap
+    (λ t. if t then energy_by (alpha_of kind.lm intra) (beta_of kind.lm intra) a.fine e channel (get_or old channel []) band
+    else get_or (get_or old channel []) band (pos 0))
     (and_true (nat_lt channel kind.channels) (nat_lt band kind.end) (is_less channel kind.channels below) (is_less band kind.end inside))
 
 pub intra_same : (kind : Kind) (a : Allocation) (e : Energy) (old other : List (List ℤ)) (channel band : ℕ)
@@ -76,9 +79,9 @@ intra_same kind a e old other channel band below inside =
     let two = kind.two_channels in
     let most = end_most kind in
     entries kind true a e old channel band (omega (arith, two, below)) (omega (arith, most, inside))
-    ∙ coded kind a e old channel band below inside
+    ∙ coded kind true a e old channel band below inside
     ∙ same_energy 4915 a.fine e channel (get_or old channel []) (get_or other channel []) band
-    ∙ sym (coded kind a e other channel band below inside)
+    ∙ sym (coded kind true a e other channel band below inside)
     ∙ sym (entries kind true a e other channel band (omega (arith, two, below)) (omega (arith, most, inside)))
 
 -- at most one question an entry

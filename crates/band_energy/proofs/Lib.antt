@@ -6,3 +6,4 @@ pub mod ValueSteps
 pub mod ValueRows
 pub mod EnergyLaws
 pub mod WantedSteps
+pub mod WantedLaws

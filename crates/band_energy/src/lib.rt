@@ -20,7 +20,10 @@ pub use coarse_walk::coarse;
 pub use energy::Energy;
 pub use fine_walk::fine;
 pub use last_walk::last;
-pub use laws::{law_energy_entries, law_energy_questions, law_intra_energies, law_last_bits};
+pub use laws::{
+    law_energy_entries, law_energy_questions, law_intra_energies, law_last_bits,
+    law_single_energies, law_wanted_energies,
+};
 pub use values::apply;
 pub use wanted::{
     EnergyPlace, LogEnergy, Wanted, energy_by_coarse, energy_by_fine, wanted_coarse, wanted_fine,
