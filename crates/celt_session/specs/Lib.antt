@@ -1,8 +1,11 @@
+pub mod AudioPages
 pub mod Choices
 pub mod Decoders
 pub mod Decoding
 pub mod Encoding
+pub mod Encodings
 pub mod Forms
+pub mod FrameFunctions
 pub mod Frames
 pub mod Lines
 pub mod Outcomes
@@ -16,4 +19,5 @@ pub mod Samples
 pub mod Sessions
 pub mod Texts
 pub mod Waves
+pub mod Windows
 pub mod Works
