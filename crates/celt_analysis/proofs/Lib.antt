@@ -1,6 +1,8 @@
+pub mod BestLemmas
 pub mod EstimateLemmas
 pub mod KaratsubaLemmas
 pub mod LaneLemmas
+pub mod PitchLaws
 pub mod PitchLemmas
 pub mod PlaceLemmas
 pub mod SearchLemmas

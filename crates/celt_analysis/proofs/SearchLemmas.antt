@@ -109,6 +109,18 @@ best-over c e n m r k b h l w = record {
               omega arith)
         ]
 
+-- a over ei is at most r over er, which is below i over ek
+pub below_next : (a i r : ℕ) (ei er ek : ℕ) → a * er ≤ r * ei → r * ek < i * er → 0 < ei → a * ek < i * ei
+below_next a i r ei er ek x y z =
+    elim (cases_lt (a * ek) (i * ei)) [
+      | inl q ↦ q
+      | inr q ↦
+          (let u : (a * er) * ek ≤ (r * ei) * ek = mul-le (a * er) ek (r * ei) ek x (omega arith) in
+          let v : (r * ek + 1) * ei ≤ (i * er) * ei = mul-le (r * ek + 1) ei (i * er) ei (omega arith) (omega arith) in
+          let w : (i * ei) * er ≤ (a * ek) * er = mul-le (i * ei) er (a * ek) er q (omega arith) in
+          absurd (omega arith))
+    ]
+
 -- the next that reaches its ratio is the best so far
 pub best-next : (c e : ℕ → ℕ) (n r k : ℕ) → IsBest c e (r + 1) r → IsNext c e 0 (c r * c r) (e r) (r + 1) n k → k < n → IsBest c e (k + 1) k
 best-next c e n r k b h p =
@@ -123,22 +135,11 @@ best-next c e n r k b h p =
     all : IsBest c e k r
     all = best-over c e n k r k b h (omega arith) (omega (arith, h.low))
 
-    below : (a i r : ℕ) (ei er ek : ℕ) → a * er ≤ r * ei → r * ek < i * er → 0 < ei → a * ek < i * ei
-    below a i r ei er ek x y z =
-        elim (cases_lt (a * ek) (i * ei)) [
-          | inl q ↦ q
-          | inr q ↦
-              (let u : (a * er) * ek ≤ (r * ei) * ek = mul-le (a * er) ek (r * ei) ek x (omega arith) in
-              let v : (r * ek + 1) * ei ≤ (i * er) * ei = mul-le (r * ek + 1) ei (i * er) ei (omega arith) (omega arith) in
-              let w : (i * ei) * er ≤ (a * ek) * er = mul-le (i * ei) er (a * ek) er q (omega arith) in
-              absurd (omega arith))
-        ]
-
     before : (i : ℕ) → i < k → is_candidate c e i ≡ true → c i * c i * e k < c k * c k * e i
     before i q g =
         let t = reached 0 (c r * c r) (e r) (c k) (e k) (h.met p) in
         let z = candidate-some c e i g in
-        below (c i * c i) (c k * c k) (c r * c r) (e i) (e r) (e k) (all.greatest i q g) (omega (arith, t.above)) z.1
+        below_next (c i * c i) (c k * c k) (c r * c r) (e i) (e r) (e k) (all.greatest i q g) (omega (arith, t.above)) z.1
 
     upto : (i : ℕ) → i < k + 1 → is_candidate c e i ≡ true → c i * c i * e k ≤ c k * c k * e i
     upto i q g =

@@ -139,6 +139,11 @@ signed_sum-join f m (suc n) =
     regrouped : (a b c : ℤ) → (a +ℤ b) +ℤ c ≡ a +ℤ (b +ℤ c)
     regrouped a b c = omega (arith, ints)
 
+pub sum_from-same : (f g : ℕ → ℕ) (a b n : ℕ) → ((i : ℕ) → i < n → f (a + i) ≡ g (b + i)) → sum_from f a n ≡ sum_from g b n
+unfolding sum_from
+sum_from-same f g a b zero h = refl
+sum_from-same f g a b (suc n) h = ap (λ z. z + f (a + n)) (sum_from-same f g a b n (λ i p. h i (omega arith))) ∙ ap (λ z. sum_from g b n + z) (h n (omega arith))
+
 -- the same samples at other places
 pub correlation-moved : (r s u v : ℕ → ℤ) (a b x y n : ℕ) → ((i : ℕ) → i < n → r (a + i) ≡ u (x + i)) → ((i : ℕ) → i < n → s (b + i) ≡ v (y + i)) → correlation r s a b n ≡ correlation u v x y n
 correlation-moved r s u v a b x y n h k = signed_sum-same (λ i. r (a + i) *ℤ s (b + i)) (λ i. u (x + i) *ℤ v (y + i)) n (λ i p. ap (λ z. z *ℤ s (b + i)) (h i p) ∙ ap (λ z. u (x + i) *ℤ z) (k i p))

@@ -6,6 +6,7 @@ mod analysis;
 mod downmix;
 mod estimate;
 mod karatsuba;
+mod pitch_laws;
 mod pitches;
 mod search;
 mod slide;
@@ -15,5 +16,6 @@ mod sums;
 mod tests;
 
 pub use analysis::Analysis;
+pub use pitch_laws::{law_best_lag, law_pitch};
 pub use pitches::pitch;
 pub use slide::Slide;
