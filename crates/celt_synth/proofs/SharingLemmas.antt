@@ -29,7 +29,7 @@ unfolding energies_in heard_of
 energies_silent kind f range None es h e = refl
 energies_silent kind f range (Some s) es h e = absurd (true≢false (sym e ∙ h.sounds))
 
-changed_in : (kind : Kind) (f : Fields) (range : ℕ) (value : Option Sound) (es : List (List ℤ)) → HoldsFrame kind f value → f.silent ≡ false → (heard_of kind range value).changed (greater kind.channels es) ≡ energies_in kind (heard_of kind range value) es
+pub changed_in : (kind : Kind) (f : Fields) (range : ℕ) (value : Option Sound) (es : List (List ℤ)) → HoldsFrame kind f value → f.silent ≡ false → (heard_of kind range value).changed (greater kind.channels es) ≡ energies_in kind (heard_of kind range value) es
 unfolding energies_in heard_of
 changed_in kind f range None es h e = absurd (true≢false (sym h.silent ∙ e))
 changed_in kind f range (Some s) es h e = refl

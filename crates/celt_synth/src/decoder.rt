@@ -16,10 +16,9 @@ use crate::channels::{ChannelBuffer, Tables};
 use crate::concealment::fill_frame;
 use crate::filters::Output;
 use crate::rows::{FLOOR, keep_rows, lower, silence, take_greater};
-use crate::sharing::setting_before;
+use crate::sharing::{hear_energies, setting_before};
 use crate::signals::Form;
 use crate::streams::{to_mono, to_stereo};
-use band_energy::apply;
 use band_shapes::{ShapeRoom, shapes};
 use celt_base::kind::Kind;
 use celt_base::state::{Setting, Shared};
@@ -390,14 +389,7 @@ impl Decoder {
         let (left, _) = left.split_at_mut(100 * blocks(kind));
         let (right, _) = right.split_at_mut(100 * blocks(kind));
         let shaping = self.shape(kind, s, left, right);
-        take_greater(&mut self.energies, kind);
-        apply(
-            &mut self.energies,
-            kind,
-            s.intra(),
-            s.allocation(),
-            s.energy(),
-        );
+        hear_energies(&mut self.energies, kind, s);
         self.sound_shapes(kind, &shaping, left, right, gain, out);
     }
 

@@ -201,6 +201,16 @@ fn shift_rows(
     *older1 = *energies;
 }
 
+/// The energies after a frame: mono copies them to the second channel, and bands from the end on have energy 0.
+pub fn keep_energies(energies: &mut [[i64; 21]; 2], kind: Kind)
+    requires { AreEnergies energies.old }
+    ensures value { energies.new ≡ energies_after kind.channels kind.end energies.old }
+    ensures bounds { AreEnergies energies.new }
+{
+    copy_mono(energies, kind);
+    clear_both(energies, kind.end, 0);
+}
+
 /// The rows after a frame: mono copies its energies to the second channel, the older rows move on, and bands from the end on
 /// have energy 0 and the least in the older rows.
 pub fn keep_rows(
@@ -220,19 +230,8 @@ pub fn keep_rows(
     ensures first_bounds { AreEnergies older1.new }
     ensures second_bounds { AreEnergies older2.new }
 {
-    copy_mono(energies, kind);
+    keep_energies(energies, kind);
     shift_rows(energies, older1, older2, transient);
-    clear_both(energies, kind.end, 0);
     clear_both(older1, kind.end, FLOOR);
     clear_both(older2, kind.end, FLOOR);
-}
-
-/// The energies after a frame alone, as `keep_rows` leaves them.
-pub fn keep_energies(energies: &mut [[i64; 21]; 2], kind: Kind)
-    requires { AreEnergies energies.old }
-    ensures value { energies.new ≡ energies_after kind.channels kind.end energies.old }
-    ensures bounds { AreEnergies energies.new }
-{
-    copy_mono(energies, kind);
-    clear_both(energies, kind.end, 0);
 }

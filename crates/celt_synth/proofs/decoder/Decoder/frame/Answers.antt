@@ -1,15 +1,15 @@
 use Rattle.std.proofs.Common.{◌≡◌, ◌∙◌, ap, sym, subst, false, true, get_or, pos, w32, FitsSigned, arith, List, ℤ}
 use Rattle.std.specs.Prelude.{◌<ℤ◌}
 use Rattle.std.proofs.lemmas.Int.{to_z-of_z, fits_signed_from_abs}
-use Rattle.band_energy.specs.EnergyValues.{energies_of}
 use Rattle.frame_symbols.specs.Readings.{reading_of}
 use Rattle.celt_synth.specs.Decoders.{with_state}
 use Rattle.celt_synth.specs.Readings.{heard_of, shaped_of}
 use Rattle.celt_synth.specs.Rows.{greater}
-use Rattle.celt_synth.specs.Shared.{silent_energies}
+use Rattle.celt_synth.specs.Shared.{energies_in, silent_energies}
 use Rattle.celt_synth.specs.Steps.{made_silent, made_sounding, shapes_in, state_after, samples_of}
 use Rattle.celt_synth.proofs.FrameLemmas.{step_read}
-use Rattle.celt_synth.proofs.ReadingLemmas.{suits_held, hears_held, changed_held, not_silent, step_silent, step_sounding, pulses_most}
+use Rattle.celt_synth.proofs.ReadingLemmas.{suits_held, hears_held, not_silent, step_silent, step_sounding, pulses_most}
+use Rattle.celt_synth.proofs.SharingLemmas.{changed_in}
 use Rattle.celt_synth.proofs.decoder.Decoder.frame.Goals as goal
 
 pub returns-then-silent-clause-state : goal.returns-then-silent-clause-state
@@ -53,12 +53,11 @@ returns-clause-state c = λ value h.
     let heard = heard_of kind range value in
     let shaped = shaped_of kind value d.invert d.state.seed in
     let hears = hears_held kind f range d.invert d.state.seed c.shape-shaping.result c.shape-shaping.new.left c.shape-shaping.new.right value c.shape-shaping.ensures.shaped h e in
-    let g : c.take_greater.new.energies ≡ greater kind.channels d.state.energies = c.take_greater.ensures.value ∙ ap (λ x. greater kind.channels x.state.energies) v in
-    let es : c.apply.new.energies ≡ heard.changed (greater kind.channels d.state.energies) =
-    c.apply.ensures.value ∙ (λ k. energies_of kind (c.intra.ensures k) (c.allocation.ensures k) (c.energy.ensures k) (g k)) ∙ changed_held kind f range value (greater kind.channels d.state.energies) h e in
+    let es : c.hear_energies.new.energies ≡ heard.changed (greater kind.channels d.state.energies) =
+    c.hear_energies.ensures.value value h ∙ ap (λ x. energies_in kind heard x.state.energies) v ∙ sym (changed_in kind f range value d.state.energies h e) in
     c.sound_shapes.ensures.state heard shaped hears
-    ∙ (λ k. with_state (v k) (state_after (v k).channels kind (made_sounding kind heard shaped c.apply.new.energies (v k).state) (v k).state))
-    ∙ ap (λ p. with_state d p.state) (step_sounding d.channels kind heard (shaped_of kind value d.invert) c.args.gain d.state c.apply.new.energies (not_silent kind f range value h e) es)
+    ∙ (λ k. with_state (v k) (state_after (v k).channels kind (made_sounding kind heard shaped c.hear_energies.new.energies (v k).state) (v k).state))
+    ∙ ap (λ p. with_state d p.state) (step_sounding d.channels kind heard (shaped_of kind value d.invert) c.args.gain d.state c.hear_energies.new.energies (not_silent kind f range value h e) es)
 
 pub returns-clause-samples : goal.returns-clause-samples
 unfolding samples_of made_sounding shapes_in
@@ -73,13 +72,12 @@ returns-clause-samples c = λ value h.
     let heard = heard_of kind range value in
     let shaped = shaped_of kind value d.invert d.state.seed in
     let hears = hears_held kind f range d.invert d.state.seed c.shape-shaping.result c.shape-shaping.new.left c.shape-shaping.new.right value c.shape-shaping.ensures.shaped h e in
-    let g : c.take_greater.new.energies ≡ greater kind.channels d.state.energies = c.take_greater.ensures.value ∙ ap (λ x. greater kind.channels x.state.energies) v in
-    let es : c.apply.new.energies ≡ heard.changed (greater kind.channels d.state.energies) =
-    c.apply.ensures.value ∙ (λ k. energies_of kind (c.intra.ensures k) (c.allocation.ensures k) (c.energy.ensures k) (g k)) ∙ changed_held kind f range value (greater kind.channels d.state.energies) h e in
+    let es : c.hear_energies.new.energies ≡ heard.changed (greater kind.channels d.state.energies) =
+    c.hear_energies.ensures.value value h ∙ ap (λ x. energies_in kind heard x.state.energies) v ∙ sym (changed_in kind f range value d.state.energies h e) in
     let r = simp to_z-of_z at (c.sound_shapes.ensures.samples heard shaped hears) in
     r
-    ∙ (λ k. samples_of (v k).channels kind c.args.gain (made_sounding kind heard shaped c.apply.new.energies (v k).state) (v k).state)
-    ∙ ap (λ p. p.samples) (step_sounding d.channels kind heard (shaped_of kind value d.invert) c.args.gain d.state c.apply.new.energies (not_silent kind f range value h e) es)
+    ∙ (λ k. samples_of (v k).channels kind c.args.gain (made_sounding kind heard shaped c.hear_energies.new.energies (v k).state) (v k).state)
+    ∙ ap (λ p. p.samples) (step_sounding d.channels kind heard (shaped_of kind value d.invert) c.args.gain d.state c.hear_energies.new.energies (not_silent kind f range value h e) es)
 
 pub returns-then-silent-clause-read_state : goal.returns-then-silent-clause-read_state
 returns-then-silent-clause-read_state c = λ frame some r.
