@@ -15,6 +15,8 @@ mod laws;
 mod tests;
 mod values;
 mod wanted;
+#[cfg(test)]
+mod wanted_tests;
 
 pub use coarse_walk::coarse;
 pub use energy::Energy;
