@@ -26,5 +26,5 @@ pub use decoding::{DecodeSession, decode_stream};
 pub use encode::encode_stream;
 pub use encoding_laws::{law_frames, law_silent_frame, law_stream_goes_on, law_wave_fault_stays};
 pub use fed::Fed;
-pub use laws::{law_fault_stays, law_pieces, law_running_goes_on};
+pub use laws::{law_failed_write, law_fault_stays, law_pieces, law_running_goes_on};
 pub use settings::{DecodeSettings, Form, Settings};
