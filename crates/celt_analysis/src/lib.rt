@@ -7,6 +7,8 @@ mod downmix;
 mod estimate;
 mod karatsuba;
 mod pitch_laws;
+#[cfg(test)]
+mod pitch_tests;
 mod pitches;
 mod search;
 mod slide;
