@@ -1,0 +1,12 @@
+pub mod Changes
+pub mod Choices
+pub mod Choosers
+pub mod Codes
+pub mod EnergiesWanted
+pub mod Frames
+pub mod Known
+pub mod Leaves
+pub mod Outsets
+pub mod Standing
+pub mod Vectors
+pub mod Wanted
