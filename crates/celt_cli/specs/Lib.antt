@@ -1,3 +1,5 @@
+pub mod Generator
+pub mod Generators
 pub mod Notes
 pub mod Options
 pub mod Parses

@@ -1,8 +1,12 @@
-//! The words of the program, its notes, and a run over a source and two sinks.
+//! The words of the program, its notes, the samples of `gen`, and a run over a source and two sinks.
 #![tactic(auto)]
 
 #[cfg(test)]
 mod encoding_tests;
+pub mod generator;
+#[cfg(test)]
+mod generator_tests;
+pub mod laws;
 #[cfg(test)]
 mod music_tests;
 pub mod notes;
