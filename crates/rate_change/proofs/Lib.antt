@@ -1,0 +1,5 @@
+pub mod SumLemmas
+pub mod WeightLemmas
+pub mod NearestLemmas
+pub mod OutputLemmas
+pub mod RateLemmas

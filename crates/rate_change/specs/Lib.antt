@@ -1,0 +1,5 @@
+pub mod Parts
+pub mod Rates
+pub mod Ratios
+pub mod Resampling
+pub mod Tables
