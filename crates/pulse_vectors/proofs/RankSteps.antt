@@ -1,9 +1,10 @@
 -- How far the loops of rank and unrank have come.
-use Rattle.std.proofs.Common.{◌≡◌, ℕ, zero, suc, ◌+◌, ◌-◌, ◌*◌, ◌<◌, ◌≤◌, inl, inr, List, [], ◌∷◌, length, drop, take, set, ◌++◌, get_or, replicate, refl, sym, ◌∙◌, ap, arith, add-one, length-drop, subst, append-nil}
+use Rattle.std.proofs.Common.{◌≡◌, ℕ, zero, suc, ◌+◌, ◌-◌, ◌*◌, ◌<◌, ◌≤◌, ◌&&◌, true, nat_le, nat_lt, inl, inr, List, [], ◌∷◌, length, drop, take, set, ◌++◌, get_or, replicate, refl, sym, ◌∙◌, ap, arith, add-one, length-drop, subst, append-nil}
 use Rattle.std.specs.Prelude.{ℤ, pos, unsigned_abs, slice_get, Some}
-use Rattle.std.proofs.Math.Seq.{drop-cons, drop-length, take-suc-set, append_snoc}
-use Rattle.std.proofs.lemmas.Bool.{cases_lt}
-use Rattle.std.proofs.lemmas.List.{take_all, length-set, length-replicate, drop-set-lt, drop-drop, take-append-drop}
+use Rattle.std.proofs.Math.Seq.{drop-cons, drop-length, take-suc-set, append_snoc, take-add}
+use Rattle.std.proofs.lemmas.Bool.{cases_lt, and_parts}
+use Rattle.std.proofs.lemmas.Bool.Decides.{nat_tests}
+use Rattle.std.proofs.lemmas.List.{take_all, length-set, length-replicate, drop-set-lt, drop-drop, take-append-drop, drop-replicate, take-replicate, append_assoc}
 use Rattle.std.proofs.lemmas.List.Sums.{sum_by-take-drop}
 use Rattle.pulse_vectors.specs.Rows.{count_below, stand_before, rank_of, Leads}
 use Rattle.pulse_vectors.specs.Vectors.{count_of, pulse_sum, vectors, minus}
@@ -252,6 +253,84 @@ writing-next n k index y i left at m x t r e w l =
       within = omega arith;
       long = length-set y i x ∙ w.long;
       zeros = rw next (drop-set-lt (i + 1) y i x (omega arith) ∙ sym (drop-drop 1 i y) ∙ ap (drop 1) zeros);
+    }
+
+-- From place `index` of the vectors of n numbers and k pulses, as many zeros as bring one to place `at` of those of m.
+pub record Skipping (n k index m at : ℕ) : Type 0 where
+  pub most : m ≤ n
+  pub inside : at < count_of m k
+  pub joined : (rest : List ℤ) → slice_get (vectors m k) at ≡ Some rest → slice_get (vectors n k) index ≡ Some (replicate (n - m) (pos 0) ++ rest)
+
+pub skipping-start : (n k index : ℕ) → index < count_of n k → Skipping n k index n index
+skipping-start n k index h =
+    let none : n - n ≡ 0 = omega arith in
+    record { most = omega arith; inside = h; joined = rw none (λ rest g. g) }
+
+-- Where a pulse is left, a number is.
+pub skipping-more : (n k index m at : ℕ) → 1 ≤ k → Skipping n k index m at → 1 ≤ m
+skipping-more n zero index m at h s = absurd (omega arith)
+skipping-more n (suc k) index zero at h s = absurd (omega (arith, s.inside, count-none-suc k))
+skipping-more n (suc k) index (suc m) at h s = omega arith
+
+zero-before : (a : ℕ) (rest : List ℤ) → replicate a (pos 0) ++ (pos 0 ∷ rest) ≡ replicate (suc a) (pos 0) ++ rest
+zero-before zero rest = refl
+zero-before (suc a) rest = ap (λ z. pos 0 ∷ z) (zero-before a rest)
+
+pub skipping-next : (n k index m at low : ℕ) → Skipping n k index (suc m) at → low ≡ count_below m k → low ≤ at → at < count_below m (suc k)
+    → Skipping n k index m (at - low)
+skipping-next n k index m at low s e below above =
+    let inside : at - low < count_of m k = omega (arith, e, below-suc m k) in
+    let leads = front-leads m k at k (at - low) (omega arith) (omega (arith, e)) inside in
+    let one : n - m ≡ suc (n - suc m) = let most = s.most in omega (arith, most) in
+    let none : k - k ≡ 0 = omega arith in
+    record {
+      most = let most = s.most in omega (arith, most);
+      inside = inside;
+      joined = λ rest g. s.joined (pos 0 ∷ rest) (rw none at (leads.joined rest g)) ∙ ap Some (zero-before (n - suc m) rest ∙ ap (λ a. replicate a (pos 0) ++ rest) (sym one));
+    }
+
+-- The same in the words of the code.
+test-most : (a b : ℕ) → nat_le a b ≡ true → a ≤ b
+test-most a b test = grind (arith, nat_tests)
+
+test-less : (a b : ℕ) → nat_lt a b ≡ true → a < b
+test-less a b test = grind (arith, nat_tests)
+
+pub skipping-turn : (n k index m at low : ℕ) → 1 ≤ k → Skipping n k index m at → low ≡ count_below (m - 1) k
+    → (nat_le (count_below (m - 1) k) at && nat_lt at (count_below (m - 1) (k + 1))) ≡ true → Skipping n k index (m - 1) (at - low)
+skipping-turn n k index m at low h s e test =
+    let some = skipping-more n k index m at h s in
+    let one : m ≡ suc (m - 1) = omega (arith, some) in
+    let parts = and_parts (nat_le (count_below (m - 1) k) at) (nat_lt at (count_below (m - 1) (k + 1))) test in
+    let below = test-most (count_below (m - 1) k) at parts.0 in
+    let above = rw add-one at (test-less at (count_below (m - 1) (k + 1)) parts.1) in
+    skipping-next n k index (m - 1) at low (subst (λ x. Skipping n k index x at) one s) e (omega (arith, e, below)) above
+
+-- Numbers that are zeros are written already.
+pub writing-skip : (n k index : ℕ) (y : List ℤ) (behind left at m r : ℕ) → behind ≤ n → Writing n k index y (n - behind) left at
+    → Skipping behind left at m r → Writing n k index y (n - m) left r
+writing-skip n k index y behind left at m r b w s =
+    let same : n - (n - behind) ≡ behind = omega arith in
+    let rest_is : n - (n - m) ≡ m = let most = s.most in omega (arith, most) in
+    let further : n - m ≡ n - behind + (behind - m) = let most = s.most in omega (arith, most) in
+    let zeros = rw same at w.zeros in
+    let left_is : behind - (behind - m) ≡ m = let most = s.most in omega (arith, most) in
+    let joined = rw same at w.unranked.joined in
+    let front : take (n - m) y ≡ take (n - behind) y ++ replicate (behind - m) (pos 0) =
+    ap (λ i. take i y) further ∙ take-add (n - behind) (behind - m) y
+    ∙ ap (λ z. take (n - behind) y ++ z) (ap (take (behind - m)) zeros ∙ take-replicate (behind - m) behind (pos 0) (omega arith)) in
+    record {
+      unranked = record {
+        few = w.unranked.few;
+        inside = rw rest_is s.inside;
+        joined = rw rest_is (λ rest g.
+            joined (replicate (behind - m) (pos 0) ++ rest) (s.joined rest g)
+            ∙ ap Some (sym (append_assoc (take (n - behind) y) (replicate (behind - m) (pos 0)) rest) ∙ ap (λ z. z ++ rest) (sym front)));
+      };
+      within = omega arith;
+      long = w.long;
+      zeros = ap (λ i. drop i y) further ∙ sym (drop-drop (behind - m) (n - behind) y) ∙ ap (drop (behind - m)) zeros
+          ∙ drop-replicate (behind - m) behind (pos 0) ∙ ap (λ i. replicate i (pos 0)) (left_is ∙ sym rest_is);
     }
 
 -- No pulse is left.

@@ -5,7 +5,7 @@
 //! number is not negative and has at most t pulses behind it are the first S(m, t) of the order. So
 //! an index leads straight to its first number, and V(m + 1, t) = S(m, t) + S(m, t - 1).
 
-ghost use Rattle.std.specs.Prelude.{◌≡◌, ℕ, ◌+◌, ◌-◌, ◌^◌, ◌<◌, ◌≤◌, length, unsigned_abs, slice_get, slice_set, replicate, pos};
+ghost use Rattle.std.specs.Prelude.{◌≡◌, ℕ, ◌+◌, ◌-◌, ◌^◌, ◌<◌, ◌≤◌, ◌&&◌, ◌++◌, ℤ, List, Some, nat_le, nat_lt, length, unsigned_abs, slice_get, slice_set, replicate, pos};
 ghost use Rattle.pulse_vectors.specs.Costs.{last_of, cost_at, index_below, index_near};
 ghost use Rattle.pulse_vectors.specs.Rows.{Leads, count_below, stand_before, rank_of};
 ghost use Rattle.pulse_vectors.specs.Tables.{HasPlace, start_of, sum_at, cost_start_of, cost_entry};
@@ -74,8 +74,9 @@ impl PulseTable {
         let mut left = pulses;
         let mut place = index;
         while left > 1 {
-            behind -= 1;
-            let number = self.first_number(behind as u32, place, left);
+            let rest = self.behind_zeros(behind as u32, place, left);
+            behind = rest.numbers as usize - 1;
+            let number = self.first_number(rest.numbers - 1, rest.place, left);
             y[y.len() - 1 - behind] = number.value;
             left = number.behind;
             place = number.place;
@@ -160,6 +161,39 @@ impl PulseTable {
         }
     }
 
+    /// What stands behind the zeros that the vector at place `index` of `numbers` numbers with `pulses`
+    /// pulses, at least one, begins with.
+    fn behind_zeros(&self, numbers: u32, index: u32, pulses: u32) -> Rest
+        requires numbers { numbers ≤ 176 }
+        requires pulses { (1 ≤ pulses) × (pulses ≤ 128) }
+        requires fits { count_of numbers pulses < 2 ^ 32 }
+        requires below { index < count_of numbers pulses }
+        ensures some { 1 ≤ result.numbers }
+        ensures most { result.numbers ≤ numbers }
+        ensures below { result.place < count_of result.numbers pulses }
+        ensures joined { (rest : List ℤ) → slice_get (vectors result.numbers pulses) result.place ≡ Some rest
+            → slice_get (vectors numbers pulses) index ≡ Some (replicate (numbers - result.numbers) (pos 0) ++ rest) }
+    {
+        let mut left = numbers;
+        let mut place = index;
+        while self.is_zero(left - 1, place, pulses) {
+            left -= 1;
+            place -= self.sum_below(left, pulses);
+        }
+        Rest {
+            numbers: left,
+            place,
+        }
+    }
+
+    /// Whether the vector at place `index` with `numbers` numbers behind the first begins with 0.
+    fn is_zero(&self, numbers: u32, index: u32, pulses: u32) -> bool
+        requires { HasPlace numbers pulses }
+        ensures { result ≡ (nat_le (count_below numbers pulses) index && nat_lt index (count_below numbers (pulses + 1))) }
+    {
+        self.sum_below(numbers, pulses) <= index && index < self.sum(numbers, pulses)
+    }
+
     /// The first number of the vector at place `index` with `numbers` numbers behind the first and
     /// `pulses` pulses, at least one.
     fn first_number(&self, numbers: u32, index: u32, pulses: u32) -> Number
@@ -217,6 +251,13 @@ impl PulseTable {
     {
         sum_at(start_of(numbers) + pulses as usize)
     }
+}
+
+/// The last numbers of a vector: how many, and their place among the vectors of as many.
+#[derive(Clone, Copy)]
+struct Rest {
+    numbers: u32,
+    place: u32,
 }
 
 /// One pulse and where it stands.
