@@ -1,5 +1,7 @@
 pub mod BestLemmas
+pub mod EnergyLemmas
 pub mod EstimateLemmas
+pub mod FillLemmas
 pub mod KaratsubaLemmas
 pub mod LaneLemmas
 pub mod PitchLaws
@@ -7,4 +9,7 @@ pub mod PitchLemmas
 pub mod PlaceLemmas
 pub mod SearchLemmas
 pub mod SettingLemmas
+pub mod SignalLemmas
+pub mod SpectrumLemmas
 pub mod SumLemmas
+pub mod TransientLemmas

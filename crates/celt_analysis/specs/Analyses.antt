@@ -4,11 +4,10 @@ use Rattle.std.specs.List.{All, range_with_len}
 use Rattle.celt_base.specs.declared.kind.Kind.{Kind}
 use Rattle.celt_base.specs.declared.state.Setting.{Setting}
 use Rattle.celt_tables.specs.Tables.{edge_of}
-use Rattle.fixed_math.specs.Items.{listed}
-use Rattle.celt_analysis.specs.Energies.{floor, height_at, is_silent, target_at}
+use Rattle.celt_analysis.specs.Energies.{floor, heights_of, is_silent, targets_of}
 use Rattle.celt_analysis.specs.Signals.{blocks_of, frame_size, channel_in, off, setting_of, values_in}
 use Rattle.celt_analysis.specs.Spectra.{spectrum}
-use Rattle.celt_analysis.specs.Transients.{block_energies, is_transient}
+use Rattle.celt_analysis.specs.Transients.{energies_in, is_transient}
 
 -- The kind of the frame, which is none before the first one; whether it is silent, and a transient; the setting of its
 -- post-filter; the spectrum of each channel, empty where there is none; the targets by channels and bands; and the heights
@@ -36,26 +35,34 @@ blank = record {
   heights = replicate 21 floor;
 }
 
+-- a frame has two channels
+abbrev pub is_stereo : Kind → Bool
+is_stereo kind = nat_eq kind.channels 2
+
 -- of a frame with these spectra
-unfoldable pub found : Kind → Setting → Bool → (ℕ → List ℤ) → Analysis
-found kind setting transient spectra = record {
+unfoldable pub found : Kind → Setting → Bool → List ℤ → List ℤ → Analysis
+found kind setting transient left right = record {
   kind = Some kind;
-  silent = is_silent kind.channels (blocks_of kind * edge_of kind.end) spectra;
+  silent = is_silent (is_stereo kind) (blocks_of kind * edge_of kind.end) left right;
   transient = transient;
   setting = setting;
-  left = spectra 0;
-  right = if nat_eq kind.channels 2 then spectra 1 else [];
-  targets = map (λ c. listed 21 (target_at kind.channels kind.end (blocks_of kind) spectra c)) (range_with_len 0 2);
-  heights = listed 21 (height_at kind.channels (target_at kind.channels kind.end (blocks_of kind) spectra));
+  left = left;
+  right = right;
+  targets = targets_of (is_stereo kind) kind.end (blocks_of kind) left right;
+  heights = heights_of (is_stereo kind) kind.end (blocks_of kind) left right;
 }
 
--- of a frame with these values of each channel
+-- whether a frame with these values of each channel is a transient
 unfoldable pub transient_of : Kind → (ℕ → List ℤ) → Bool
-transient_of kind values = is_transient kind.lm (block_energies kind.channels values)
+transient_of kind values = is_transient kind.lm (energies_in (is_stereo kind) (values 0) (values 1))
+
+-- the spectrum of its channel c
+unfoldable pub spectrum_in : Kind → (ℕ → List ℤ) → ℕ → List ℤ
+spectrum_in kind values c = spectrum (blocks_of kind) (transient_of kind values) (values c)
 
 unfoldable pub analysed : Kind → Setting → (ℕ → List ℤ) → Analysis
 analysed kind setting values =
-    found kind setting (transient_of kind values) (λ c. spectrum (blocks_of kind) (transient_of kind values) (values c))
+    found kind setting (transient_of kind values) (spectrum_in kind values 0) (if is_stereo kind then spectrum_in kind values 1 else [])
 
 -- of a frame with this window
 unfoldable pub analysis_of : Kind → List Setting → List ℤ → Analysis

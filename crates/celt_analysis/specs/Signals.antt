@@ -41,12 +41,18 @@ off = record { period = 15; gain = 0; tapset = 0; least_period = omega arith; mo
 abbrev pub setting_of : List Setting → ℕ → Setting
 setting_of settings k = slice_index_or settings k off
 
--- the values that are transformed: 120 of the frame before, and those of the frame of n samples
-unfoldable pub value_at : ℕ → List Setting → (ℕ → ℤ) → ℕ → ℤ
-value_at n settings x t =
-    if nat_lt t 120
-    then filtered (setting_of settings 0) (setting_of settings 1) (n - 120 + t) (emphasized x) (1025 + t)
-    else filtered (setting_of settings 1) (setting_of settings 2) (t - 120) (emphasized x) (1025 + t)
+-- value t from place at on, which is place i + t of the fade
+abbrev pub filtered_from : Setting → Setting → ℕ → (ℕ → ℤ) → ℕ → ℕ → ℤ
+filtered_from from to i p at t = filtered from to (i + t) p (at + t)
 
+-- the values that are transformed: 120 of the frame before, and those of the frame of n samples, from p, its window with
+-- pre-emphasis
+unfoldable pub value_at : ℕ → List Setting → (ℕ → ℤ) → ℕ → ℤ
+value_at n settings p t =
+    if nat_lt t 120
+    then filtered_from (setting_of settings 0) (setting_of settings 1) (n - 120) p 1025 t
+    else filtered_from (setting_of settings 1) (setting_of settings 2) 0 p 1145 (t - 120)
+
+-- from the samples x of the window
 abbrev pub values_in : ℕ → List Setting → (ℕ → ℤ) → List ℤ
-values_in n settings x = listed (n + 120) (value_at n settings x)
+values_in n settings x = listed (n + 120) (value_at n settings (emphasized x))

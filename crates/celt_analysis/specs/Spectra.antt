@@ -1,5 +1,5 @@
 -- The spectrum of a frame (RFC 6716, 4.3.7): one MDCT, or in a transient one of each block of 120 samples.
-use Rattle.std.specs.Prelude.{◌≡◌, ℕ, ◌+◌, ◌*◌, ◌/◌, ◌%◌, ◌^◌, ◌<◌, ◌≤◌, Bool, if◌then◌else◌, ℤ, unsigned_abs, List, length}
+use Rattle.std.specs.Prelude.{◌≡◌, ◌≢◌, ℕ, ◌+◌, ◌*◌, ◌/◌, ◌%◌, ◌^◌, ◌<◌, ◌≤◌, Bool, if◌then◌else◌, ℤ, unsigned_abs, List, length}
 use Rattle.fixed_math.specs.Items.{item, listed}
 use Rattle.mdct_fixed.specs.Mdct.{forward_of}
 
@@ -19,3 +19,9 @@ pub record IsRoom (count : ℕ) (items : List ℤ) : Type 0 where
   pub room : length items ≡ 960
   pub within : count ≤ 960
   pub sizes : (p : ℕ) → unsigned_abs (item items p) < 2 ^ 38
+
+-- the first n items of block b of m stand at the block's places, and all other items are as they were
+pub record IsSpread (xs : List ℤ) (m b n : ℕ) (old new : List ℤ) : Type 0 where
+  pub count : length new ≡ length old
+  pub here : (j : ℕ) → j < n → item new (j * m + b) ≡ item xs j
+  pub others : (p : ℕ) → ((j : ℕ) → j < n → p ≢ j * m + b) → item new p ≡ item old p

@@ -3,15 +3,13 @@ ghost use Rattle.std.specs.Prelude.{◌≡◌, replicate, length, All};
 ghost use Rattle.celt_analysis.specs.Analyses.{AreTargets};
 ghost use Rattle.celt_analysis.specs.Energies.{floor};
 
+use crate::energies::FLOOR;
 use crate::spectra::Spectrum;
 use celt_base::kind::Kind;
 use celt_base::state::Setting;
 use celt_base::status::OutOfMemory;
 use std::alloc::Global;
 use std::marker::Model;
-
-/// The least energy, log2 in units of 2^-10.
-pub const FLOOR: i64 = -28672;
 
 // The targets before the first frame.
 fn least_targets() -> [[i64; 21]; 2]

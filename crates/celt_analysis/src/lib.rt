@@ -4,18 +4,24 @@
 
 mod analysis;
 mod downmix;
+mod emphasis;
+mod energies;
 mod estimate;
 mod karatsuba;
 mod pitch_laws;
 #[cfg(test)]
 mod pitch_tests;
 mod pitches;
+mod prefilter;
+mod rooms;
 mod search;
 mod slide;
 mod spectra;
 mod sums;
 #[cfg(test)]
 mod tests;
+mod transforms;
+mod transients;
 
 pub use analysis::Analysis;
 pub use pitch_laws::{law_best_lag, law_pitch};

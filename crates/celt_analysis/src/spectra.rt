@@ -1,7 +1,5 @@
 //! The spectrum of a channel (RFC 6716, section 4.3.7).
-ghost use Rattle.std.specs.Prelude.{◌≡◌, ◌^◌, ◌<◌, ◌≤◌, ℕ, ℤ, pos, unsigned_abs, length, take, All, IfOk};
-ghost use Rattle.fixed_math.specs.Items.{item};
-
+use crate::rooms::zeros;
 use celt_base::status::OutOfMemory;
 use std::alloc::Global;
 use std::marker::Model;
@@ -25,17 +23,6 @@ impl Model for Spectrum {
     ghost view = { λ s. take s.count s.items.items };
 
     ghost invariant = { λ s. IsRoom s.count s.items.items };
-}
-
-/// A list of zeros.
-pub fn zeros(alloc: Global, count: usize) -> Result<Vec<i64>, OutOfMemory>
-    ensures zeros { IfOk result (λ v. (p : ℕ) → item v.items p ≡ pos 0) }
-    ensures length { IfOk result (λ v. length v.items ≡ count) }
-{
-    match vec![in alloc; 0i64; count] {
-        Ok(values) => Ok(values),
-        Err(_) => Err(OutOfMemory),
-    }
 }
 
 impl Spectrum {

@@ -1,0 +1,50 @@
+-- Energies of blocks.
+use Rattle.std.proofs.Common.{◌≡◌, ℕ, zero, suc, ◌+◌, ◌*◌, ◌^◌, ◌<◌, ◌≤◌, Bool, true, false, ◌||◌, nat_lt, if◌then◌else◌, refl, sym, subst, inl, inr, arith, ap, ◌∙◌, List, length}
+use Rattle.std.specs.Prelude.{ℤ, pos, ◌*ℤ◌, unsigned_abs, FitsSigned}
+use Rattle.std.specs.Int.{int_shr, w64}
+use Rattle.std.proofs.lemmas.Int.{ints, fits_signed_from_abs, unsigned_abs-mul}
+use Rattle.std.proofs.lemmas.Nat.{mul-le}
+use Rattle.fixed_math.specs.Items.{item}
+use Rattle.fixed_math.proofs.RoundingLemmas.{shr_scaled}
+use Rattle.celt_analysis.specs.Sums.{sum_from, squared, energy}
+use Rattle.celt_analysis.specs.Transients.{block_energy, energies_in, rises, rises_within}
+
+-- ---- the code's steps for the square of a value in whole samples
+
+pub record SquareSteps (v : ℤ) : Type 0 where
+  pub v_fits : FitsSigned w64 v
+  pub whole : FitsSigned w64 (int_shr v 12)
+  pub square : FitsSigned w64 (int_shr v 12 *ℤ int_shr v 12)
+  pub size : unsigned_abs (int_shr v 12 *ℤ int_shr v 12) ≤ 2 ^ 34
+
+pub square_steps : (v : ℤ) → unsigned_abs v < 2 ^ 29 → SquareSteps v
+square_steps v h =
+    let w : unsigned_abs (int_shr v 12) ≤ 2 ^ 17 = shr_scaled v 12 (2 ^ 17) (omega arith) in
+    let s : unsigned_abs (int_shr v 12 *ℤ int_shr v 12) ≤ 2 ^ 34 = subst (λ k. k ≤ 2 ^ 34) (sym (unsigned_abs-mul (int_shr v 12) (int_shr v 12))) (mul-le (unsigned_abs (int_shr v 12)) (unsigned_abs (int_shr v 12)) (2 ^ 17) (2 ^ 17) w w) in
+    record {
+      v_fits = fits_signed_from_abs w64 _ (omega arith);
+      whole = fits_signed_from_abs w64 _ (omega arith);
+      square = fits_signed_from_abs w64 _ (omega arith);
+      size = s;
+    }
+
+-- ---- sums
+
+pub energy_none : (f : ℕ → ℤ) (a : ℕ) → 0 ≡ energy f a 0
+unfolding sum_from
+energy_none f a = refl
+
+pub energy_next : (f : ℕ → ℤ) (a n sum square : ℕ) → sum ≡ energy f a n → square ≡ squared (f (a + n)) → sum + square ≡ energy f a (n + 1)
+unfolding sum_from
+energy_next f a n sum square e s = ap (λ k. k + square) e ∙ ap (λ k. energy f a n + k) s ∙ ap (λ k. energy f a k) (next n)
+  where
+    next : (n : ℕ) → suc n ≡ n + 1
+    next n = omega arith
+
+pub found_next : (e : ℕ → ℕ) (n : ℕ) (found : Bool) (before next : ℕ) (after : Bool) → found ≡ rises_within e n → before ≡ e n → next ≡ e (n + 1) → after ≡ (found || nat_lt (16 * before + 7680) next) → after ≡ rises_within e (n + 1)
+unfolding rises_within
+found_next e n found before next after hf hb hn ha =
+    ha ∙ ap (λ b. b || nat_lt (16 * before + 7680) next) hf ∙ ap (λ k. rises_within e n || nat_lt (16 * k + 7680) next) hb ∙ ap (λ k. rises_within e n || nat_lt (16 * e n + 7680) k) (hn ∙ ap e (one_on n)) ∙ ap (rises_within e) (sym (one_on n))
+  where
+    one_on : (n : ℕ) → n + 1 ≡ suc n
+    one_on n = omega arith

@@ -1,0 +1,55 @@
+use Rattle.std.proofs.Common.{◌≡◌, ◌∙◌, ℕ, ◌+◌, ◌-◌, ◌*◌, ◌^◌, ◌<◌, ◌≤◌, ap, arith, refl, rules, List, length}
+use Rattle.std.specs.Prelude.{ℤ, pos, ◌-ℤ◌, ◌*ℤ◌, FitsSigned}
+use Rattle.std.specs.Int.{w16, w64}
+use Rattle.std.proofs.lemmas.Int.{to_z-of_z}
+use Rattle.std.proofs.lemmas.List.{length-set}
+use Rattle.fixed_math.specs.Items.{item}
+use Rattle.fixed_math.specs.Rounding.{rounded}
+use Rattle.celt_analysis.specs.Signals.{emphasized, channel_in}
+use Rattle.celt_analysis.proofs.FillLemmas.{Filled, filled_first, filled_next, filled_list, filled_sizes}
+use Rattle.celt_analysis.proofs.SignalLemmas.{emphasized_first, emphasized_next}
+use Rattle.celt_analysis.proofs.emphasis.emphasize_mono.Goals as goal
+
+pub loop-n-init : goal.loop-n-init
+loop-n-init c =
+    let x : ℕ → ℤ = channel_in 1 c.args.window.now 0 in
+    let a : ℤ = item c.args.window.now 0 in
+    let fa : FitsSigned w16 a = search rules in
+    let r : ℤ = c.emphasize_sample.result in
+    let fr : FitsSigned w64 r = record { sfits = c.emphasize_sample.type_inv } in
+    let e : r ≡ pos 4096 *ℤ a -ℤ rounded (pos 27853 *ℤ pos 0) 3 = simp to_z-of_z at c.emphasize_sample.ensures.value in
+    record {
+      some = omega arith;
+      filled = simp to_z-of_z (filled_first (emphasized x) (2 ^ 28) c.args.out.now r c.requires.some (e ∙ emphasized_first x) c.emphasize_sample.ensures.size);
+    }
+
+pub loop-n-preserved : goal.loop-n-preserved
+loop-n-preserved c =
+    let w : List ℤ = c.args.window.now in
+    let x : ℕ → ℤ = channel_in 1 w 0 in
+    let n : ℕ = c.loop-n.n in
+    let some : 1 ≤ n = c.loop-n.invariant.some in
+    let a : ℤ = item w n in
+    let b : ℤ = item w (n - 1) in
+    let fa : FitsSigned w16 a = search rules in
+    let fb : FitsSigned w16 b = search rules in
+    let r : ℤ = c.emphasize_sample-in-loop-n.result in
+    let fr : FitsSigned w64 r = record { sfits = c.emphasize_sample-in-loop-n.type_inv } in
+    let e : r ≡ pos 4096 *ℤ a -ℤ rounded (pos 27853 *ℤ b) 3 = simp to_z-of_z at c.emphasize_sample-in-loop-n.ensures.value in
+    let here : 1 * n + 0 ≡ n = omega arith in
+    let back : 1 * (n - 1) + 0 ≡ n - 1 = omega arith in
+    let same : pos 4096 *ℤ a -ℤ rounded (pos 27853 *ℤ b) 3 ≡ pos 4096 *ℤ x n -ℤ rounded (pos 27853 *ℤ x (n - 1)) 3 = rw here (rw back refl) in
+    record {
+      some = omega arith;
+      filled = simp to_z-of_z (filled_next (emphasized x) (2 ^ 28) n c.loop-n.out r (omega (arith, c.loop-n-test.true, c.loop-n.auto.out, c.loop-n.auto.n-end)) (e ∙ same ∙ emphasized_next x n some) c.emphasize_sample-in-loop-n.ensures.size c.loop-n.invariant.filled);
+    }
+
+pub returns-clause-value : goal.returns-clause-value
+returns-clause-value c =
+    let whole : length c.loop-n.out ≡ length c.args.out.now = c.loop-n.auto.out ∙ length-set c.args.out.now 0 _ in
+    filled_list (emphasized (channel_in 1 c.args.window.now 0)) (2 ^ 28) c.loop-n.n (length c.args.out.now) c.loop-n.out (whole) (omega (arith, c.loop-n-test.false, whole, c.loop-n.auto.n-end)) c.loop-n.invariant.filled
+
+pub returns-clause-sizes : goal.returns-clause-sizes
+returns-clause-sizes c =
+    let whole : length c.loop-n.out ≡ length c.args.out.now = c.loop-n.auto.out ∙ length-set c.args.out.now 0 _ in
+    filled_sizes (emphasized (channel_in 1 c.args.window.now 0)) (2 ^ 28) c.loop-n.n c.loop-n.out (omega (arith, c.loop-n-test.false, whole, c.loop-n.auto.n-end)) c.loop-n.invariant.filled
