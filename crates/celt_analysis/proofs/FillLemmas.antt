@@ -1,6 +1,6 @@
 -- Lists that are filled from the front, item by item.
-use Rattle.std.proofs.Common.{◌≡◌, ℕ, ◌+◌, ◌<◌, ◌≤◌, sym, subst, inl, inr, arith, ap, ◌∙◌, List, length}
-use Rattle.std.specs.Prelude.{ℤ, pos, unsigned_abs, slice_set, All, get_or}
+use Rattle.std.proofs.Common.{◌≡◌, ℕ, ◌+◌, ◌<◌, ◌≤◌, sym, subst, inl, inr, arith, List, length}
+use Rattle.std.specs.Prelude.{ℤ, pos, unsigned_abs, slice_set, All}
 use Rattle.std.proofs.lemmas.Bool.{cases_eq}
 use Rattle.std.proofs.lemmas.List.{get_or-set_same, get_or-set_other, get_or_default}
 use Rattle.fixed_math.specs.Items.{item, listed}

@@ -1,5 +1,5 @@
 -- Pre-emphasis and the pre-filter.
-use Rattle.std.proofs.Common.{◌≡◌, ℕ, zero, suc, ◌+◌, ◌-◌, ◌*◌, ◌^◌, ◌<◌, ◌≤◌, refl, sym, subst, inl, inr, arith, ap, ◌∙◌, List, length, ◌++◌, nat_lt, if◌then◌else◌, true, false}
+use Rattle.std.proofs.Common.{◌≡◌, ℕ, zero, suc, ◌+◌, ◌-◌, ◌*◌, ◌^◌, ◌<◌, ◌≤◌, sym, inl, inr, arith, ap, ◌∙◌, List, length, ◌++◌, nat_lt, true, false}
 use Rattle.std.specs.Prelude.{ℤ, pos, negsuc, ◌+ℤ◌, ◌-ℤ◌, ◌*ℤ◌, unsigned_abs, FitsSigned, take}
 use Rattle.std.specs.Int.{int_shr, w16, w32, w64}
 use Rattle.std.proofs.lemmas.Int.{ints, fits_signed_from_abs}

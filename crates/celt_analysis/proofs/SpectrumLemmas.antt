@@ -1,11 +1,11 @@
 -- Spectra of blocks.
-use Rattle.std.proofs.Common.{◌≡◌, ℕ, zero, suc, ◌+◌, ◌-◌, ◌*◌, ◌/◌, ◌%◌, ◌^◌, ◌<◌, ◌≤◌, refl, sym, subst, inl, inr, arith, ap, ◌∙◌, List, length, Bool, true, false}
+use Rattle.std.proofs.Common.{◌≡◌, ℕ, suc, ◌+◌, ◌*◌, ◌/◌, ◌%◌, ◌^◌, ◌<◌, ◌≤◌, sym, subst, inl, inr, arith, ap, ◌∙◌, List, length, Bool, true, false}
 use Rattle.std.specs.Prelude.{◌≢◌, ℤ, pos, unsigned_abs, slice_set, take, drop, All}
 use Rattle.std.proofs.lemmas.Bool.{cases_lt, cases_eq}
 use Rattle.std.proofs.lemmas.Nat.{mul-le, mod_below, div_below, div-add-mod'}
 use Rattle.std.proofs.lemmas.List.{length-set, get_or-set_same, get_or-set_other, get_or_default, get_or-take, get_or-drop, length-take-le, length-drop}
-use Rattle.fixed_math.specs.Items.{item, listed}
-use Rattle.fixed_math.proofs.ItemLemmas.{item-listed, item_below, listed_from}
+use Rattle.fixed_math.specs.Items.{item}
+use Rattle.fixed_math.proofs.ItemLemmas.{item_below, listed_from}
 use Rattle.mdct_fixed.specs.Mdct.{forward_of}
 use Rattle.celt_analysis.specs.Spectra.{block, spectrum, IsSpread}
 

@@ -1,13 +1,12 @@
 -- Energies of blocks.
-use Rattle.std.proofs.Common.{◌≡◌, ℕ, zero, suc, ◌+◌, ◌*◌, ◌^◌, ◌<◌, ◌≤◌, Bool, true, false, ◌||◌, nat_lt, if◌then◌else◌, refl, sym, subst, inl, inr, arith, ap, ◌∙◌, List, length}
-use Rattle.std.specs.Prelude.{ℤ, pos, ◌*ℤ◌, unsigned_abs, FitsSigned}
+use Rattle.std.proofs.Common.{◌≡◌, ℕ, suc, ◌+◌, ◌*◌, ◌^◌, ◌<◌, ◌≤◌, Bool, ◌||◌, nat_lt, refl, sym, subst, arith, ap, ◌∙◌}
+use Rattle.std.specs.Prelude.{ℤ, ◌*ℤ◌, unsigned_abs, FitsSigned}
 use Rattle.std.specs.Int.{int_shr, w64}
-use Rattle.std.proofs.lemmas.Int.{ints, fits_signed_from_abs, unsigned_abs-mul}
+use Rattle.std.proofs.lemmas.Int.{fits_signed_from_abs, unsigned_abs-mul}
 use Rattle.std.proofs.lemmas.Nat.{mul-le}
-use Rattle.fixed_math.specs.Items.{item}
 use Rattle.fixed_math.proofs.RoundingLemmas.{shr_scaled}
 use Rattle.celt_analysis.specs.Sums.{sum_from, squared, energy}
-use Rattle.celt_analysis.specs.Transients.{block_energy, energies_in, rises, rises_within}
+use Rattle.celt_analysis.specs.Transients.{rises_within}
 
 -- ---- the code's steps for the square of a value in whole samples
 

@@ -1,6 +1,6 @@
 -- What an encoder finds in a frame.
-use Rattle.std.specs.Prelude.{◌≡◌, ℕ, ◌*◌, ◌^◌, ◌<◌, nat_eq, nat_lt, Bool, false, if◌then◌else◌, ℤ, pos, unsigned_abs, List, [], length, map, replicate, get_or, Option, None, Some}
-use Rattle.std.specs.List.{All, range_with_len}
+use Rattle.std.specs.Prelude.{◌≡◌, ℕ, ◌*◌, ◌^◌, ◌<◌, nat_eq, nat_lt, Bool, false, if◌then◌else◌, ℤ, pos, unsigned_abs, List, [], length, replicate, get_or, Option, None, Some}
+use Rattle.std.specs.List.{All}
 use Rattle.celt_base.specs.declared.kind.Kind.{Kind}
 use Rattle.celt_base.specs.declared.state.Setting.{Setting}
 use Rattle.celt_tables.specs.Tables.{edge_of}

@@ -1,4 +1,4 @@
-use Rattle.std.proofs.Common.{◌≡◌, ◌∙◌, ℕ, ◌+◌, ◌-◌, ◌*◌, ◌^◌, ◌<◌, ◌≤◌, ap, arith, refl, rules, List, length}
+use Rattle.std.proofs.Common.{◌≡◌, ◌∙◌, ℕ, ◌+◌, ◌-◌, ◌*◌, ◌^◌, ◌≤◌, arith, refl, rules, List, length}
 use Rattle.std.specs.Prelude.{ℤ, pos, ◌-ℤ◌, ◌*ℤ◌, FitsSigned}
 use Rattle.std.specs.Int.{w16, w64}
 use Rattle.std.proofs.lemmas.Int.{to_z-of_z}
@@ -6,7 +6,7 @@ use Rattle.std.proofs.lemmas.List.{length-set}
 use Rattle.fixed_math.specs.Items.{item}
 use Rattle.fixed_math.specs.Rounding.{rounded}
 use Rattle.celt_analysis.specs.Signals.{emphasized, channel_in}
-use Rattle.celt_analysis.proofs.FillLemmas.{Filled, filled_first, filled_next, filled_list, filled_sizes}
+use Rattle.celt_analysis.proofs.FillLemmas.{filled_first, filled_next, filled_list, filled_sizes}
 use Rattle.celt_analysis.proofs.SignalLemmas.{emphasized_first, emphasized_next}
 use Rattle.celt_analysis.proofs.emphasis.emphasize_mono.Goals as goal
 

@@ -1,9 +1,9 @@
-use Rattle.std.proofs.Common.{◌≡◌, ℕ, ◌+◌, ◌*◌, ◌^◌, ◌<◌, ◌≤◌, arith, rules, subst, refl, List}
+use Rattle.std.proofs.Common.{◌≡◌, ℕ, ◌+◌, arith, rules, List}
 use Rattle.std.specs.Prelude.{ℤ, FitsSigned}
 use Rattle.std.specs.Int.{w64}
 use Rattle.std.proofs.lemmas.Int.{to_z-of_z}
 use Rattle.fixed_math.specs.Items.{item}
-use Rattle.celt_analysis.specs.Sums.{energy, squared}
+use Rattle.celt_analysis.specs.Sums.{squared}
 use Rattle.celt_analysis.proofs.TransientLemmas.{energy_none, energy_next}
 use Rattle.celt_analysis.proofs.energies.energy_of.Goals as goal
 

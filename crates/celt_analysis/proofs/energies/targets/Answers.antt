@@ -1,8 +1,7 @@
-use Rattle.std.proofs.Common.{◌≡◌, ℕ, ◌<◌, arith, List}
+use Rattle.std.proofs.Common.{arith}
 use Rattle.std.specs.Prelude.{ℤ, FitsSigned}
 use Rattle.std.specs.Int.{w64}
 use Rattle.std.proofs.lemmas.Int.{to_z-of_z}
-use Rattle.celt_analysis.specs.Energies.{band_amplitude, target_of}
 use Rattle.celt_analysis.proofs.EnergyLemmas.{row_next, row_whole, row_sizes}
 use Rattle.celt_analysis.proofs.energies.targets.Goals as goal
 

@@ -1,4 +1,4 @@
-use Rattle.std.proofs.Common.{◌≡◌, ◌∙◌, ap}
+use Rattle.std.proofs.Common.{◌∙◌, ap}
 use Rattle.std.specs.Prelude.{take}
 use Rattle.celt_analysis.proofs.SpectrumLemmas.{block_is}
 use Rattle.celt_analysis.proofs.transforms.block_of.Goals as goal

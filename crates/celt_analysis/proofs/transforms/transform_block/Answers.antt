@@ -1,4 +1,4 @@
-use Rattle.std.proofs.Common.{◌≡◌, ◌∙◌, ap}
+use Rattle.std.proofs.Common.{◌∙◌, ap}
 use Rattle.mdct_fixed.specs.Mdct.{forward_of}
 use Rattle.celt_analysis.proofs.transforms.transform_block.Goals as goal
 

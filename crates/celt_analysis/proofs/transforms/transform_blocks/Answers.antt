@@ -1,5 +1,4 @@
-use Rattle.std.proofs.Common.{◌≡◌, ◌∙◌, ◌<◌, ◌≤◌, ℕ, arith, subst, List}
-use Rattle.std.specs.Prelude.{ℤ}
+use Rattle.std.proofs.Common.{◌≡◌, ◌<◌, arith, subst}
 use Rattle.celt_analysis.proofs.SpectrumLemmas.{AreBlocks, blocks_none, blocks_next, blocks_whole, blocks_sizes}
 use Rattle.celt_analysis.proofs.transforms.transform_blocks.Goals as goal
 

@@ -1,4 +1,4 @@
-use Rattle.std.proofs.Common.{◌≡◌, ℕ, ◌+◌, refl}
+use Rattle.std.proofs.Common.{ℕ, refl}
 use Rattle.celt_analysis.specs.Transients.{energies_in, rises_within}
 use Rattle.celt_analysis.proofs.TransientLemmas.{found_next}
 use Rattle.celt_analysis.proofs.transients.rises.Goals as goal
