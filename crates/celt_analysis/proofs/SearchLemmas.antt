@@ -251,8 +251,11 @@ raised-ratio c e s o n r k square energy m f p a b g h t w =
 
 -- ---- the loop of the search
 
-pub next-of-ratio : (c e : ℕ → ℕ) (k n r square energy : ℕ) → square ≡ c k * c k → energy ≡ e k → IsNext c e 0 square energy (k + 1) n r → IsNext c e 0 (c k * c k) (e k) (k + 1) n r
-next-of-ratio c e k n r square energy a b w = subst (λ x. IsNext c e 0 x (e k) (k + 1) n r) a (subst (λ y. IsNext c e 0 square y (k + 1) n r) b w)
+pub next-of-ratio : (c e : ℕ → ℕ) (k n r slack square energy : ℕ) → slack ≡ 0 → square ≡ c k * c k → energy ≡ e k → IsNext c e slack square energy (k + 1) n r → IsNext c e 0 (c k * c k) (e k) (k + 1) n r
+next-of-ratio c e k n r slack square energy l a b w = subst (λ x. IsNext c e 0 x (e k) (k + 1) n r) a (subst (λ y. IsNext c e 0 square y (k + 1) n r) b (subst (λ z. IsNext c e z square energy (k + 1) n r) l w))
+
+pub next-of-equal : (c e : ℕ → ℕ) (s o n r slack : ℕ) → slack ≡ 1 → IsNext c e slack s o 0 n r → IsNext c e 1 s o 0 n r
+next-of-equal c e s o n r slack l w = subst (λ z. IsNext c e z s o 0 n r) l w
 
 pub not-found : (c e : ℕ → ℕ) (s o n r : ℕ) → r ≡ n → IsNext c e 1 s o 0 n r → IsBestFrom c e s o n n
 not-found c e s o n r h b = record {

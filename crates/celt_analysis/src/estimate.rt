@@ -5,7 +5,7 @@ ghost use Rattle.fixed_math.specs.Items.{item};
 ghost use Rattle.celt_analysis.specs.Pitch.{positive_part, correlations};
 ghost use Rattle.celt_analysis.specs.Sums.{correlation, magnitude};
 
-use crate::karatsuba::correlate;
+use crate::karatsuba::{Part, correlate};
 use crate::search::{BEFORE, LAGS};
 
 // The places of a list of quantized samples.
@@ -204,17 +204,13 @@ fn estimates(x: &[i16; PLACES], v: &[i16; PLACES], n: usize) -> [i32; PLACES]
     let mut out = [0i32; PLACES];
     for b in 0..run.count {
         let at = b * run.places;
-        correlate(
-            &mut s,
+        let part = Part {
             at,
-            PLACES,
-            3072,
-            run.halvings,
-            run.places,
-            &mut out,
-            at,
-            1024,
-        );
+            from: PLACES,
+            places: run.places,
+            halvings: run.halvings,
+        };
+        correlate(&mut s, part, 3072, &mut out, at, 1024);
     }
     out
 }

@@ -101,67 +101,72 @@ fn correlate_short(s: &[i16], at: usize, from: usize, free: usize, out: &mut [i3
     }
 }
 
-// The sums of products at `h` places from `at` on with the `h` items from `from` on. What stands from `free` and from
-// `spare` on is room for the halves.
+// A part of the places: so many from `at` on, with as many items from `from` on, 64 doubled so many times.
+#[derive(Clone, Copy)]
+pub(crate) struct Part {
+    pub at: usize,
+    pub from: usize,
+    pub places: usize,
+    pub halvings: u32,
+}
+
+// The correlations at the places of a part. What stands from `free` and from `spare` on is room for the halves.
 pub(crate) fn correlate(
     s: &mut [i16],
-    at: usize,
-    from: usize,
+    part: Part,
     free: usize,
-    halvings: u32,
-    h: usize,
     out: &mut [i32],
     to: usize,
     spare: usize,
 )
-    requires power { h ≡ 64 * 2 ^ halvings }
-    requires first { at + 2 * h ≤ free }
-    requires second { from + h ≤ free }
-    requires free { free + 5 * h ≤ length s.old }
-    requires room { to + h ≤ spare }
-    requires spare { spare + h ≤ length out.old }
-    requires sizes { (i : ℕ) → i < free → unsigned_abs (item s.old i) * h < 2 ^ 21 }
-    ensures items { (t : ℕ) → t < h → item out.new (to + t) ≡ int_wrap w32 (correlation (item s.old) (item s.old) (at + t) from h) }
+    requires power { part.places ≡ 64 * 2 ^ part.halvings }
+    requires first { part.at + 2 * part.places ≤ free }
+    requires second { part.from + part.places ≤ free }
+    requires free { free + 5 * part.places ≤ length s.old }
+    requires room { to + part.places ≤ spare }
+    requires spare { spare + part.places ≤ length out.old }
+    requires sizes { (i : ℕ) → i < free → unsigned_abs (item s.old i) * part.places < 2 ^ 21 }
+    ensures items { (t : ℕ) → t < part.places → item out.new (to + t) ≡ int_wrap w32 (correlation (item s.old) (item s.old) (part.at + t) part.from part.places) }
     ensures below { (k : ℕ) → k < to → item out.new k ≡ item out.old k }
-    ensures behind { (k : ℕ) → to + h ≤ k → k < spare → item out.new k ≡ item out.old k }
+    ensures behind { (k : ℕ) → to + part.places ≤ k → k < spare → item out.new k ≡ item out.old k }
     ensures length { length out.new ≡ length out.old }
     ensures kept { (k : ℕ) → k < free → item s.new k ≡ item s.old k }
     ensures s_length { length s.new ≡ length s.old }
 {
-    if halvings == 0 {
-        correlate_short(s, at, from, free, out, to);
+    if part.halvings == 0 {
+        correlate_short(s, part.at, part.from, free, out, to);
         return;
     }
+    let h = part.places;
     let q = h / 2;
     let a = free + q;
     let b = a + h;
     let next = b + h;
-    sums(s, from, from + q, free, q);
-    differences(s, at, at + q, a, h);
-    differences(s, at + h, at + q, b, h);
-    correlate(
-        s,
-        at + q,
-        free,
-        next,
-        halvings - 1,
-        q,
-        out,
-        spare,
-        spare + q,
-    );
-    correlate(s, a, from, next, halvings - 1, q, out, to, spare + q);
-    correlate(
-        s,
-        b,
-        from + q,
-        next,
-        halvings - 1,
-        q,
-        out,
-        to + q,
-        spare + q,
-    );
+    sums(s, part.from, part.from + q, free, q);
+    differences(s, part.at, part.at + q, a, h);
+    differences(s, part.at + h, part.at + q, b, h);
+    let halvings = part.halvings - 1;
+    let both = Part {
+        at: part.at + q,
+        from: free,
+        places: q,
+        halvings,
+    };
+    let low = Part {
+        at: a,
+        from: part.from,
+        places: q,
+        halvings,
+    };
+    let high = Part {
+        at: b,
+        from: part.from + q,
+        places: q,
+        halvings,
+    };
+    correlate(s, both, next, out, spare, spare + q);
+    correlate(s, low, next, out, to, spare + q);
+    correlate(s, high, next, out, to + q, spare + q);
     add_all(out, to, spare, q);
     add_all(out, to + q, spare, q);
 }

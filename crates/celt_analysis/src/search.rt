@@ -12,29 +12,44 @@ pub(crate) const BEFORE: usize = 1022;
 // The number of lags, of 15 to 1022.
 pub(crate) const LAGS: usize = 1008;
 
-// The square of a correlation over an energy.
+// The square of a correlation over an energy. Its slack is 1 where one that is equal reaches it too, and 0 where only a
+// greater one does.
 #[derive(Clone, Copy)]
-pub(crate) struct Ratio {
-    pub square: u128,
-    pub energy: u64,
+struct Ratio {
+    square: u128,
+    energy: u64,
+    slack: u8,
 }
 
 impl Ratio {
-    // Whether that of another correlation and energy is above this one; with a slack of 1 it may be equal.
-    pub(crate) fn is_reached(self, slack: u8, c: u64, e: u64) -> bool
-        requires slack { slack ≤ 1 }
+    // Whether another correlation and energy reach it.
+    fn is_reached(self, c: u64, e: u64) -> bool
+        requires slack { self.slack ≤ 1 }
         requires square { self.square < 2 ^ 86 }
         requires energy { self.energy ≤ 2 ^ 40 }
         requires correlation_size { c < 2 ^ 43 }
         requires energy_size { e ≤ 2 ^ 40 }
-        ensures { result ≡ reaches slack self.square self.energy c e }
+        ensures { result ≡ reaches self.slack self.square self.energy c e }
     {
         if c == 0 || e == 0 {
             return false;
         }
         let needed = self.square * (e as u128);
         let there = (c as u128) * (c as u128) * (self.energy as u128);
-        needed < there + slack as u128
+        needed < there + self.slack as u128
+    }
+
+    // The same with slack.
+    fn or_equal(self) -> Ratio
+        ensures square { result.square ≡ self.square }
+        ensures energy { result.energy ≡ self.energy }
+        ensures slack { result.slack ≡ 1 }
+    {
+        Ratio {
+            square: self.square,
+            energy: self.energy,
+            slack: 1,
+        }
     }
 }
 
@@ -52,61 +67,52 @@ pub(crate) fn correlation_of(d: &[i64], n: usize, i: usize) -> u64
 }
 
 // Whether a lag reaches the ratio; its correlation is formed only where the bound of it does.
-fn reaches_ratio(
-    d: &[i64],
-    n: usize,
-    i: usize,
-    most: u64,
-    energy: u64,
-    slack: u8,
-    ratio: Ratio,
-) -> bool
+fn reaches_ratio(d: &[i64], n: usize, i: usize, bounds: u64, energy: u64, ratio: Ratio) -> bool
     requires items { All (λ x. unsigned_abs x < 2 ^ 16) d.now }
     requires count { n ≤ 960 }
     requires length { length d.now ≡ 1022 + n }
     requires lag { i < 1008 }
-    requires most { correlations (item d.now) 1022 n i ≤ most }
-    requires most_size { most < 2 ^ 43 }
+    requires bounds { correlations (item d.now) 1022 n i ≤ bounds }
+    requires bounds_size { bounds < 2 ^ 43 }
     requires energy { energy ≡ energies (item d.now) 1022 n i }
     requires energy_size { energy ≤ 2 ^ 40 }
-    requires slack { slack ≤ 1 }
+    requires slack { ratio.slack ≤ 1 }
     requires square { ratio.square < 2 ^ 86 }
     requires ratio { ratio.energy ≤ 2 ^ 40 }
-    ensures { result ≡ reaches slack ratio.square ratio.energy (correlations (item d.now) 1022 n i) (energies (item d.now) 1022 n i) }
+    ensures { result ≡ reaches ratio.slack ratio.square ratio.energy (correlations (item d.now) 1022 n i) (energies (item d.now) 1022 n i) }
 {
-    if !ratio.is_reached(slack, most, energy) {
+    if !ratio.is_reached(bounds, energy) {
         return false;
     }
-    ratio.is_reached(slack, correlation_of(d, n, i), energy)
+    ratio.is_reached(correlation_of(d, n, i), energy)
 }
 
 // The first lag from `from` on that reaches the ratio.
 fn next_reaching(
     d: &[i64],
     n: usize,
-    most: &[u64],
+    bounds: &[u64],
     energy: &[u64],
     from: usize,
-    slack: u8,
     ratio: Ratio,
 ) -> usize
     requires items { All (λ x. unsigned_abs x < 2 ^ 16) d.now }
     requires count { n ≤ 960 }
     requires length { length d.now ≡ 1022 + n }
-    requires most { (i : ℕ) → i < 1008 → correlations (item d.now) 1022 n i ≤ slice_index most.now i }
-    requires most_sizes { (i : ℕ) → i < 1008 → slice_index most.now i < 2 ^ 43 }
-    requires most_length { length most.now ≡ 1008 }
+    requires bounds { (i : ℕ) → i < 1008 → correlations (item d.now) 1022 n i ≤ slice_index bounds.now i }
+    requires bounds_sizes { (i : ℕ) → i < 1008 → slice_index bounds.now i < 2 ^ 43 }
+    requires bounds_length { length bounds.now ≡ 1008 }
     requires energies { (i : ℕ) → i < 1008 → slice_index energy.now i ≡ energies (item d.now) 1022 n i }
     requires energy_sizes { (i : ℕ) → i < 1008 → slice_index energy.now i ≤ 2 ^ 40 }
     requires energy_length { length energy.now ≡ 1008 }
     requires from { from ≤ 1008 }
-    requires slack { slack ≤ 1 }
+    requires slack { ratio.slack ≤ 1 }
     requires square { ratio.square < 2 ^ 86 }
     requires energy { ratio.energy ≤ 2 ^ 40 }
-    ensures { IsNext (correlations (item d.now) 1022 n) (energies (item d.now) 1022 n) slack ratio.square ratio.energy from 1008 result }
+    ensures { IsNext (correlations (item d.now) 1022 n) (energies (item d.now) 1022 n) ratio.slack ratio.square ratio.energy from 1008 result }
 {
     for i in from..LAGS {
-        if reaches_ratio(d, n, i, most[i], energy[i], slack, ratio) {
+        if reaches_ratio(d, n, i, bounds[i], energy[i], ratio) {
             return i;
         }
     }
@@ -126,65 +132,70 @@ fn ratio_of(d: &[i64], n: usize, energy: &[u64], i: usize) -> Ratio
     ensures energy { result.energy ≡ energies (item d.now) 1022 n i }
     ensures square_size { result.square < 2 ^ 86 }
     ensures energy_size { result.energy ≤ 2 ^ 40 }
+    ensures slack { result.slack ≡ 0 }
 {
     let c = correlation_of(d, n, i) as u128;
     Ratio {
         square: c * c,
         energy: energy[i],
+        slack: 0,
     }
 }
 
-// The best lag, if one reaches the ratio.
-fn best_from(d: &[i64], n: usize, most: &[u64], energy: &[u64], ratio: Ratio) -> usize
+// The next lag that is better than the one at `place`.
+fn next_better(d: &[i64], n: usize, bounds: &[u64], energy: &[u64], place: usize) -> usize
     requires items { All (λ x. unsigned_abs x < 2 ^ 16) d.now }
     requires count { n ≤ 960 }
     requires length { length d.now ≡ 1022 + n }
-    requires most { (i : ℕ) → i < 1008 → correlations (item d.now) 1022 n i ≤ slice_index most.now i }
-    requires most_sizes { (i : ℕ) → i < 1008 → slice_index most.now i < 2 ^ 43 }
-    requires most_length { length most.now ≡ 1008 }
+    requires bounds { (i : ℕ) → i < 1008 → correlations (item d.now) 1022 n i ≤ slice_index bounds.now i }
+    requires bounds_sizes { (i : ℕ) → i < 1008 → slice_index bounds.now i < 2 ^ 43 }
+    requires bounds_length { length bounds.now ≡ 1008 }
     requires energies { (i : ℕ) → i < 1008 → slice_index energy.now i ≡ energies (item d.now) 1022 n i }
     requires energy_sizes { (i : ℕ) → i < 1008 → slice_index energy.now i ≤ 2 ^ 40 }
     requires energy_length { length energy.now ≡ 1008 }
+    requires place { place < 1008 }
+    ensures { IsNext (correlations (item d.now) 1022 n) (energies (item d.now) 1022 n) 0 (correlations (item d.now) 1022 n place * correlations (item d.now) 1022 n place) (energies (item d.now) 1022 n place) (place + 1) 1008 result }
+{
+    let ratio = ratio_of(d, n, energy, place);
+    next_reaching(d, n, bounds, energy, place + 1, ratio)
+}
+
+// The best lag, if one reaches the ratio.
+fn best_from(d: &[i64], n: usize, bounds: &[u64], energy: &[u64], ratio: Ratio) -> usize
+    requires items { All (λ x. unsigned_abs x < 2 ^ 16) d.now }
+    requires count { n ≤ 960 }
+    requires length { length d.now ≡ 1022 + n }
+    requires bounds { (i : ℕ) → i < 1008 → correlations (item d.now) 1022 n i ≤ slice_index bounds.now i }
+    requires bounds_sizes { (i : ℕ) → i < 1008 → slice_index bounds.now i < 2 ^ 43 }
+    requires bounds_length { length bounds.now ≡ 1008 }
+    requires energies { (i : ℕ) → i < 1008 → slice_index energy.now i ≡ energies (item d.now) 1022 n i }
+    requires energy_sizes { (i : ℕ) → i < 1008 → slice_index energy.now i ≤ 2 ^ 40 }
+    requires energy_length { length energy.now ≡ 1008 }
+    requires slack { ratio.slack ≡ 1 }
     requires square { ratio.square < 2 ^ 86 }
     requires energy { ratio.energy ≤ 2 ^ 40 }
     ensures { IsBestFrom (correlations (item d.now) 1022 n) (energies (item d.now) 1022 n) ratio.square ratio.energy 1008 result }
 {
-    let mut place = next_reaching(d, n, most, energy, 0, 1, ratio);
+    let mut place = next_reaching(d, n, bounds, energy, 0, ratio);
     if place == LAGS {
         return LAGS;
     }
-    let mut next = next_reaching(
-        d,
-        n,
-        most,
-        energy,
-        place + 1,
-        0,
-        ratio_of(d, n, energy, place),
-    );
+    let mut next = next_better(d, n, bounds, energy, place);
     while next < LAGS {
         place = next;
-        next = next_reaching(
-            d,
-            n,
-            most,
-            energy,
-            place + 1,
-            0,
-            ratio_of(d, n, energy, place),
-        );
+        next = next_better(d, n, bounds, energy, place);
     }
     place
 }
 
 // The lag with the greatest bound. Where it reaches the ratio, its own is searched from: nothing else rests on it.
-fn greatest(most: &[u64]) -> usize
-    requires { length most.now ≡ 1008 }
+fn greatest(bounds: &[u64]) -> usize
+    requires { length bounds.now ≡ 1008 }
     ensures { result < 1008 }
 {
     let mut place = 0;
     for i in 1..LAGS {
-        if most[place] < most[i] {
+        if bounds[place] < bounds[i] {
             place = i;
         }
     }
@@ -192,13 +203,13 @@ fn greatest(most: &[u64]) -> usize
 }
 
 // The best lag, if one reaches half the frame's energy.
-pub(crate) fn best(d: &[i64], n: usize, most: &[u64], energy: &[u64], own: u64) -> usize
+pub(crate) fn best(d: &[i64], n: usize, bounds: &[u64], energy: &[u64], own: u64) -> usize
     requires items { All (λ x. unsigned_abs x < 2 ^ 16) d.now }
     requires count { n ≤ 960 }
     requires length { length d.now ≡ 1022 + n }
-    requires most { (i : ℕ) → i < 1008 → correlations (item d.now) 1022 n i ≤ slice_index most.now i }
-    requires most_sizes { (i : ℕ) → i < 1008 → slice_index most.now i < 2 ^ 43 }
-    requires most_length { length most.now ≡ 1008 }
+    requires bounds { (i : ℕ) → i < 1008 → correlations (item d.now) 1022 n i ≤ slice_index bounds.now i }
+    requires bounds_sizes { (i : ℕ) → i < 1008 → slice_index bounds.now i < 2 ^ 43 }
+    requires bounds_length { length bounds.now ≡ 1008 }
     requires energies { (i : ℕ) → i < 1008 → slice_index energy.now i ≡ energies (item d.now) 1022 n i }
     requires energy_sizes { (i : ℕ) → i < 1008 → slice_index energy.now i ≤ 2 ^ 40 }
     requires energy_length { length energy.now ≡ 1008 }
@@ -208,11 +219,12 @@ pub(crate) fn best(d: &[i64], n: usize, most: &[u64], energy: &[u64], own: u64) 
     let floor = Ratio {
         square: own as u128,
         energy: 2,
+        slack: 1,
     };
-    let i = greatest(most);
-    let raised = ratio_of(d, n, energy, i);
-    if floor.is_reached(1, correlation_of(d, n, i), energy[i]) {
-        return best_from(d, n, most, energy, raised);
+    let i = greatest(bounds);
+    let raised = ratio_of(d, n, energy, i).or_equal();
+    if floor.is_reached(correlation_of(d, n, i), energy[i]) {
+        return best_from(d, n, bounds, energy, raised);
     }
-    best_from(d, n, most, energy, floor)
+    best_from(d, n, bounds, energy, floor)
 }

@@ -7,106 +7,106 @@ use Rattle.celt_analysis.proofs.KaratsubaLemmas.{Half, half-of, item-small, leaf
 use Rattle.celt_analysis.proofs.karatsuba.+correlate.Goals as goal
 
 pub correlate_short-requires-clause-sizes : goal.correlate_short-requires-clause-sizes
-correlate_short-requires-clause-sizes m c = λ i p. leaf-small (unsigned_abs (item c.args.s.now i)) c.args.h c.args.halvings c.requires.power (c.requires.sizes i p)
+correlate_short-requires-clause-sizes m c = λ i p. leaf-small (unsigned_abs (item c.args.s.now i)) c.args.part.places c.args.part.halvings c.requires.power (c.requires.sizes i p)
 
 pub sums-requires-clause-first_sizes : goal.sums-requires-clause-first_sizes
 sums-requires-clause-first_sizes m c =
-    let q : ℕ = c.args.h / 2 in
-    let g : Half c.args.h c.args.halvings = half-of c.args.h c.args.halvings (omega arith) c.requires.power in
-    let w : q + q ≡ c.args.h = g.whole in
-    λ i p. item-small (unsigned_abs (item c.args.s.now (c.args.from + i))) c.args.h g.least (c.requires.sizes (c.args.from + i) (omega (arith, c.requires.second)))
+    let q : ℕ = c.args.part.places / 2 in
+    let g : Half c.args.part.places c.args.part.halvings = half-of c.args.part.places c.args.part.halvings (omega arith) c.requires.power in
+    let w : q + q ≡ c.args.part.places = g.whole in
+    λ i p. item-small (unsigned_abs (item c.args.s.now (c.args.part.from + i))) c.args.part.places g.least (c.requires.sizes (c.args.part.from + i) (omega (arith, c.requires.second)))
 
 pub sums-requires-clause-second_sizes : goal.sums-requires-clause-second_sizes
 sums-requires-clause-second_sizes m c =
-    let q : ℕ = c.args.h / 2 in
-    let g : Half c.args.h c.args.halvings = half-of c.args.h c.args.halvings (omega arith) c.requires.power in
-    let w : q + q ≡ c.args.h = g.whole in
-    λ i p. item-small (unsigned_abs (item c.args.s.now (c.args.from + q + i))) c.args.h g.least (c.requires.sizes (c.args.from + q + i) (omega (arith, c.requires.second)))
+    let q : ℕ = c.args.part.places / 2 in
+    let g : Half c.args.part.places c.args.part.halvings = half-of c.args.part.places c.args.part.halvings (omega arith) c.requires.power in
+    let w : q + q ≡ c.args.part.places = g.whole in
+    λ i p. item-small (unsigned_abs (item c.args.s.now (c.args.part.from + q + i))) c.args.part.places g.least (c.requires.sizes (c.args.part.from + q + i) (omega (arith, c.requires.second)))
 
 pub differences-requires-clause-first_sizes : goal.differences-requires-clause-first_sizes
 differences-requires-clause-first_sizes m c =
-    let q : ℕ = c.args.h / 2 in
-    let g : Half c.args.h c.args.halvings = half-of c.args.h c.args.halvings (omega arith) c.requires.power in
-    let w : q + q ≡ c.args.h = g.whole in
-    λ i p. subst (λ z. unsigned_abs z < 2 ^ 14) (sym (c.sums.ensures.others (c.args.at + i) (inl (omega (arith, c.requires.first))))) (item-small (unsigned_abs (item c.args.s.now (c.args.at + i))) c.args.h g.least (c.requires.sizes (c.args.at + i) (omega (arith, c.requires.first))))
+    let q : ℕ = c.args.part.places / 2 in
+    let g : Half c.args.part.places c.args.part.halvings = half-of c.args.part.places c.args.part.halvings (omega arith) c.requires.power in
+    let w : q + q ≡ c.args.part.places = g.whole in
+    λ i p. subst (λ z. unsigned_abs z < 2 ^ 14) (sym (c.sums.ensures.others (c.args.part.at + i) (inl (omega (arith, c.requires.first))))) (item-small (unsigned_abs (item c.args.s.now (c.args.part.at + i))) c.args.part.places g.least (c.requires.sizes (c.args.part.at + i) (omega (arith, c.requires.first))))
 
 pub differences-requires-clause-second_sizes : goal.differences-requires-clause-second_sizes
 differences-requires-clause-second_sizes m c =
-    let q : ℕ = c.args.h / 2 in
-    let g : Half c.args.h c.args.halvings = half-of c.args.h c.args.halvings (omega arith) c.requires.power in
-    let w : q + q ≡ c.args.h = g.whole in
-    λ i p. subst (λ z. unsigned_abs z < 2 ^ 14) (sym (c.sums.ensures.others (c.args.at + q + i) (inl (omega (arith, c.requires.first))))) (item-small (unsigned_abs (item c.args.s.now (c.args.at + q + i))) c.args.h g.least (c.requires.sizes (c.args.at + q + i) (omega (arith, c.requires.first))))
+    let q : ℕ = c.args.part.places / 2 in
+    let g : Half c.args.part.places c.args.part.halvings = half-of c.args.part.places c.args.part.halvings (omega arith) c.requires.power in
+    let w : q + q ≡ c.args.part.places = g.whole in
+    λ i p. subst (λ z. unsigned_abs z < 2 ^ 14) (sym (c.sums.ensures.others (c.args.part.at + q + i) (inl (omega (arith, c.requires.first))))) (item-small (unsigned_abs (item c.args.s.now (c.args.part.at + q + i))) c.args.part.places g.least (c.requires.sizes (c.args.part.at + q + i) (omega (arith, c.requires.first))))
 
 pub differences-requires-2-clause-first_sizes : goal.differences-requires-2-clause-first_sizes
 differences-requires-2-clause-first_sizes m c =
-    let q : ℕ = c.args.h / 2 in
-    let g : Half c.args.h c.args.halvings = half-of c.args.h c.args.halvings (omega arith) c.requires.power in
-    let w : q + q ≡ c.args.h = g.whole in
-    λ i p. subst (λ z. unsigned_abs z < 2 ^ 14) (sym (c.differences.ensures.others (c.args.at + c.args.h + i) (inl (omega (arith, c.requires.first))) ∙ c.sums.ensures.others (c.args.at + c.args.h + i) (inl (omega (arith, c.requires.first))))) (item-small (unsigned_abs (item c.args.s.now (c.args.at + c.args.h + i))) c.args.h g.least (c.requires.sizes (c.args.at + c.args.h + i) (omega (arith, c.requires.first))))
+    let q : ℕ = c.args.part.places / 2 in
+    let g : Half c.args.part.places c.args.part.halvings = half-of c.args.part.places c.args.part.halvings (omega arith) c.requires.power in
+    let w : q + q ≡ c.args.part.places = g.whole in
+    λ i p. subst (λ z. unsigned_abs z < 2 ^ 14) (sym (c.differences.ensures.others (c.args.part.at + c.args.part.places + i) (inl (omega (arith, c.requires.first))) ∙ c.sums.ensures.others (c.args.part.at + c.args.part.places + i) (inl (omega (arith, c.requires.first))))) (item-small (unsigned_abs (item c.args.s.now (c.args.part.at + c.args.part.places + i))) c.args.part.places g.least (c.requires.sizes (c.args.part.at + c.args.part.places + i) (omega (arith, c.requires.first))))
 
 pub differences-requires-2-clause-second_sizes : goal.differences-requires-2-clause-second_sizes
 differences-requires-2-clause-second_sizes m c =
-    let q : ℕ = c.args.h / 2 in
-    let g : Half c.args.h c.args.halvings = half-of c.args.h c.args.halvings (omega arith) c.requires.power in
-    let w : q + q ≡ c.args.h = g.whole in
-    λ i p. subst (λ z. unsigned_abs z < 2 ^ 14) (sym (c.differences.ensures.others (c.args.at + q + i) (inl (omega (arith, c.requires.first))) ∙ c.sums.ensures.others (c.args.at + q + i) (inl (omega (arith, c.requires.first))))) (item-small (unsigned_abs (item c.args.s.now (c.args.at + q + i))) c.args.h g.least (c.requires.sizes (c.args.at + q + i) (omega (arith, c.requires.first))))
+    let q : ℕ = c.args.part.places / 2 in
+    let g : Half c.args.part.places c.args.part.halvings = half-of c.args.part.places c.args.part.halvings (omega arith) c.requires.power in
+    let w : q + q ≡ c.args.part.places = g.whole in
+    λ i p. subst (λ z. unsigned_abs z < 2 ^ 14) (sym (c.differences.ensures.others (c.args.part.at + q + i) (inl (omega (arith, c.requires.first))) ∙ c.sums.ensures.others (c.args.part.at + q + i) (inl (omega (arith, c.requires.first))))) (item-small (unsigned_abs (item c.args.s.now (c.args.part.at + q + i))) c.args.part.places g.least (c.requires.sizes (c.args.part.at + q + i) (omega (arith, c.requires.first))))
 
 pub correlate-requires : goal.correlate-requires
 correlate-requires m c =
-    let q : ℕ = c.args.h / 2 in
-    let g : Half c.args.h c.args.halvings = half-of c.args.h c.args.halvings (omega arith) c.requires.power in
-    let w : q + q ≡ c.args.h = g.whole in
+    let q : ℕ = c.args.part.places / 2 in
+    let g : Half c.args.part.places c.args.part.halvings = half-of c.args.part.places c.args.part.halvings (omega arith) c.requires.power in
+    let w : q + q ≡ c.args.part.places = g.whole in
     let s0 : ℕ → ℤ = item c.args.s.now in
     let s3 : ℕ → ℤ = item c.differences-2.new.s in
     let d = c.decreases in
-    let l = lay s0 (item c.sums.new.s) (item c.differences.new.s) s3 c.args.at c.args.from c.args.free q c.args.h w c.requires.first c.requires.second c.sums.ensures.items c.sums.ensures.others c.differences.ensures.items c.differences.ensures.others c.differences-2.ensures.items c.differences-2.ensures.others in
-    let z = joined-sizes s0 s3 c.args.at c.args.from c.args.free (c.args.free + q) (c.args.free + q + c.args.h) (c.args.free + q + c.args.h + c.args.h) q (2 ^ 21) l (λ i p. subst (λ n. unsigned_abs (s0 i) * n < 2 ^ 21) (sym w) (c.requires.sizes i p)) in
+    let l = lay s0 (item c.sums.new.s) (item c.differences.new.s) s3 c.args.part.at c.args.part.from c.args.free q c.args.part.places w c.requires.first c.requires.second c.sums.ensures.items c.sums.ensures.others c.differences.ensures.items c.differences.ensures.others c.differences-2.ensures.items c.differences-2.ensures.others in
+    let z = joined-sizes s0 s3 c.args.part.at c.args.part.from c.args.free (c.args.free + q) (c.args.free + q + c.args.part.places) (c.args.free + q + c.args.part.places + c.args.part.places) q (2 ^ 21) l (λ i p. subst (λ n. unsigned_abs (s0 i) * n < 2 ^ 21) (sym w) (c.requires.sizes i p)) in
     (omega arith, (g.power, (omega (arith, c.requires.first), (omega (arith, c.requires.second), (omega (arith, c.requires.free, c.sums.ensures.length, c.differences.ensures.length, c.differences-2.ensures.length), (omega arith, (omega (arith, c.requires.spare), z)))))))
 
 pub correlate-requires-2 : goal.correlate-requires-2
 correlate-requires-2 m c =
-    let q : ℕ = c.args.h / 2 in
-    let g : Half c.args.h c.args.halvings = half-of c.args.h c.args.halvings (omega arith) c.requires.power in
-    let w : q + q ≡ c.args.h = g.whole in
+    let q : ℕ = c.args.part.places / 2 in
+    let g : Half c.args.part.places c.args.part.halvings = half-of c.args.part.places c.args.part.halvings (omega arith) c.requires.power in
+    let w : q + q ≡ c.args.part.places = g.whole in
     let s0 : ℕ → ℤ = item c.args.s.now in
     let s3 : ℕ → ℤ = item c.differences-2.new.s in
     let d = c.decreases in
-    let l = lay s0 (item c.sums.new.s) (item c.differences.new.s) s3 c.args.at c.args.from c.args.free q c.args.h w c.requires.first c.requires.second c.sums.ensures.items c.sums.ensures.others c.differences.ensures.items c.differences.ensures.others c.differences-2.ensures.items c.differences-2.ensures.others in
-    let z = joined-sizes s0 s3 c.args.at c.args.from c.args.free (c.args.free + q) (c.args.free + q + c.args.h) (c.args.free + q + c.args.h + c.args.h) q (2 ^ 21) l (λ i p. subst (λ n. unsigned_abs (s0 i) * n < 2 ^ 21) (sym w) (c.requires.sizes i p)) in
+    let l = lay s0 (item c.sums.new.s) (item c.differences.new.s) s3 c.args.part.at c.args.part.from c.args.free q c.args.part.places w c.requires.first c.requires.second c.sums.ensures.items c.sums.ensures.others c.differences.ensures.items c.differences.ensures.others c.differences-2.ensures.items c.differences-2.ensures.others in
+    let z = joined-sizes s0 s3 c.args.part.at c.args.part.from c.args.free (c.args.free + q) (c.args.free + q + c.args.part.places) (c.args.free + q + c.args.part.places + c.args.part.places) q (2 ^ 21) l (λ i p. subst (λ n. unsigned_abs (s0 i) * n < 2 ^ 21) (sym w) (c.requires.sizes i p)) in
     (omega arith, (g.power, (omega (arith, c.requires.first), (omega (arith, c.requires.second), (omega (arith, c.requires.free, c.correlate.ensures.s_length, c.sums.ensures.length, c.differences.ensures.length, c.differences-2.ensures.length), (omega (arith, c.requires.room), (omega (arith, c.requires.spare, c.correlate.ensures.length), sizes-kept s3 (item c.correlate.new.s) _ q (2 ^ 21) c.correlate.ensures.kept z)))))))
 
 pub correlate-requires-3 : goal.correlate-requires-3
 correlate-requires-3 m c =
-    let q : ℕ = c.args.h / 2 in
-    let g : Half c.args.h c.args.halvings = half-of c.args.h c.args.halvings (omega arith) c.requires.power in
-    let w : q + q ≡ c.args.h = g.whole in
+    let q : ℕ = c.args.part.places / 2 in
+    let g : Half c.args.part.places c.args.part.halvings = half-of c.args.part.places c.args.part.halvings (omega arith) c.requires.power in
+    let w : q + q ≡ c.args.part.places = g.whole in
     let s0 : ℕ → ℤ = item c.args.s.now in
     let s3 : ℕ → ℤ = item c.differences-2.new.s in
     let d = c.decreases in
-    let l = lay s0 (item c.sums.new.s) (item c.differences.new.s) s3 c.args.at c.args.from c.args.free q c.args.h w c.requires.first c.requires.second c.sums.ensures.items c.sums.ensures.others c.differences.ensures.items c.differences.ensures.others c.differences-2.ensures.items c.differences-2.ensures.others in
-    let z = joined-sizes s0 s3 c.args.at c.args.from c.args.free (c.args.free + q) (c.args.free + q + c.args.h) (c.args.free + q + c.args.h + c.args.h) q (2 ^ 21) l (λ i p. subst (λ n. unsigned_abs (s0 i) * n < 2 ^ 21) (sym w) (c.requires.sizes i p)) in
+    let l = lay s0 (item c.sums.new.s) (item c.differences.new.s) s3 c.args.part.at c.args.part.from c.args.free q c.args.part.places w c.requires.first c.requires.second c.sums.ensures.items c.sums.ensures.others c.differences.ensures.items c.differences.ensures.others c.differences-2.ensures.items c.differences-2.ensures.others in
+    let z = joined-sizes s0 s3 c.args.part.at c.args.part.from c.args.free (c.args.free + q) (c.args.free + q + c.args.part.places) (c.args.free + q + c.args.part.places + c.args.part.places) q (2 ^ 21) l (λ i p. subst (λ n. unsigned_abs (s0 i) * n < 2 ^ 21) (sym w) (c.requires.sizes i p)) in
     (omega arith, (g.power, (omega (arith, c.requires.first), (omega (arith, c.requires.second), (omega (arith, c.requires.free, c.correlate-2.ensures.s_length, c.correlate.ensures.s_length, c.sums.ensures.length, c.differences.ensures.length, c.differences-2.ensures.length), (omega (arith, c.requires.room), (omega (arith, c.requires.spare, c.correlate-2.ensures.length, c.correlate.ensures.length), sizes-kept s3 (item c.correlate-2.new.s) _ q (2 ^ 21) (λ k p. c.correlate-2.ensures.kept k p ∙ c.correlate.ensures.kept k p) z)))))))
 
 pub returns-clause-items : goal.returns-clause-items
 returns-clause-items m c =
-    let q : ℕ = c.args.h / 2 in
-    let g : Half c.args.h c.args.halvings = half-of c.args.h c.args.halvings (omega arith) c.requires.power in
-    let w : q + q ≡ c.args.h = g.whole in
+    let q : ℕ = c.args.part.places / 2 in
+    let g : Half c.args.part.places c.args.part.halvings = half-of c.args.part.places c.args.part.halvings (omega arith) c.requires.power in
+    let w : q + q ≡ c.args.part.places = g.whole in
     let s0 : ℕ → ℤ = item c.args.s.now in
     let s3 : ℕ → ℤ = item c.differences-2.new.s in
-    let l = lay s0 (item c.sums.new.s) (item c.differences.new.s) s3 c.args.at c.args.from c.args.free q c.args.h w c.requires.first c.requires.second c.sums.ensures.items c.sums.ensures.others c.differences.ensures.items c.differences.ensures.others c.differences-2.ensures.items c.differences-2.ensures.others in
-    let z = joined-sizes s0 s3 c.args.at c.args.from c.args.free (c.args.free + q) (c.args.free + q + c.args.h) (c.args.free + q + c.args.h + c.args.h) q (2 ^ 21) l (λ i p. subst (λ n. unsigned_abs (s0 i) * n < 2 ^ 21) (sym w) (c.requires.sizes i p)) in
+    let l = lay s0 (item c.sums.new.s) (item c.differences.new.s) s3 c.args.part.at c.args.part.from c.args.free q c.args.part.places w c.requires.first c.requires.second c.sums.ensures.items c.sums.ensures.others c.differences.ensures.items c.differences.ensures.others c.differences-2.ensures.items c.differences-2.ensures.others in
+    let z = joined-sizes s0 s3 c.args.part.at c.args.part.from c.args.free (c.args.free + q) (c.args.free + q + c.args.part.places) (c.args.free + q + c.args.part.places + c.args.part.places) q (2 ^ 21) l (λ i p. subst (λ n. unsigned_abs (s0 i) * n < 2 ^ 21) (sym w) (c.requires.sizes i p)) in
     let o1 : ℕ → ℤ = item c.correlate.new.out in
     let o2 : ℕ → ℤ = item c.correlate-2.new.out in
     let o3 : ℕ → ℤ = item c.correlate-3.new.out in
     let o4 : ℕ → ℤ = item c.add_all.new.out in
     let o5 : ℕ → ℤ = item c.add_all-2.new.out in
     let p : ℕ → ℤ = λ t. o1 (c.args.spare + t) in
-    let at : ℕ = c.args.at in
+    let at : ℕ = c.args.part.at in
     let to : ℕ = c.args.to in
-    let from : ℕ = c.args.from in
+    let from : ℕ = c.args.part.from in
     let f : ℕ = c.args.free in
-    let h : ℕ = c.args.h in
+    let h : ℕ = c.args.part.places in
     let sp : ℕ = c.args.spare in
     let third : (t : ℕ) → t < q → o3 (sp + t) ≡ p t = λ t r. c.correlate-3.ensures.behind (sp + t) (omega (arith, c.requires.room)) (omega arith) ∙ c.correlate-2.ensures.behind (sp + t) (omega (arith, c.requires.room)) (omega arith) in
     let fourth : (t : ℕ) → t < q → o4 (sp + t) ≡ p t = λ t r. c.add_all.ensures.others (sp + t) (inr (omega (arith, c.requires.room))) ∙ third t r in
