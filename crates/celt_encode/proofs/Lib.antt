@@ -1,8 +1,11 @@
 pub mod ChangeSteps
 pub mod ChoiceLemmas
 pub mod CodeSteps
+pub mod ListeningLemmas
 pub mod MixSteps
 pub mod NearestSteps
 pub mod NumberSteps
+pub mod SpreadLemmas
+pub mod UnitLemmas
 pub mod VectorSteps
 pub mod WritingSteps

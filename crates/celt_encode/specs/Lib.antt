@@ -6,7 +6,10 @@ pub mod EnergiesWanted
 pub mod Frames
 pub mod Known
 pub mod Leaves
+pub mod Listening
 pub mod Outsets
+pub mod Spreads
 pub mod Standing
+pub mod Units
 pub mod Vectors
 pub mod Wanted
