@@ -8,13 +8,17 @@ pub mod Framing
 pub mod Going
 pub mod KindFacts
 pub mod Lining
+pub mod PacketLemmas
 pub mod Played
 pub mod PlayingPages
 pub mod Putting
+pub mod Rows
+pub mod Sampling
 pub mod SilentFrame
 pub mod Sounding
 pub mod Starting
 pub mod WaveLemmas
 pub mod WholeInput
 pub mod WholeReads
+pub mod WindowLemmas
 pub mod ZeroSamples

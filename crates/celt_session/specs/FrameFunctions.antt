@@ -28,6 +28,6 @@ abbrev pub frame_at : (f : FrameFunction) → Row f → ℕ → List ℕ
 frame_at f row t = f.frame (state_before f row t) row.kind (row.bytes t) (row.window t)
 
 -- so many frames from frame t on
-unfoldable pub frames_from : (f : FrameFunction) → Row f → ℕ → ℕ → List (List ℕ)
-frames_from f row t zero = []
-frames_from f row t (suc count) = frames_from f row t count ++ frame_at f row (t + count) ∷ []
+unfoldable pub frames_from : (ℕ → List ℕ) → ℕ → ℕ → List (List ℕ)
+frames_from frame t zero = []
+frames_from frame t (suc count) = frames_from frame t count ++ frame (t + count) ∷ []

@@ -6,9 +6,11 @@ pub mod Encoding
 pub mod Encodings
 pub mod Forms
 pub mod FrameFunctions
+pub mod FrameWorks
 pub mod Frames
 pub mod Lines
 pub mod Outcomes
+pub mod Packers
 pub mod PageFunctions
 pub mod PageWorks
 pub mod Pages
@@ -17,6 +19,7 @@ pub mod Playing
 pub mod Reads
 pub mod Samples
 pub mod Sessions
+pub mod SilentWorks
 pub mod Texts
 pub mod Waves
 pub mod Windows

@@ -16,7 +16,7 @@ use opus_packets::{pack, write_head, write_tags};
 use range_coder::Writer;
 
 /// Writes the frame that says silence, in all of the room.
-fn write_silence(room: &mut [u8])
+pub(crate) fn write_silence(room: &mut [u8])
     requires least { 2 ≤ length room.old }
     requires most { length room.old ≤ 1275 }
     ensures { room.new ≡ frame_of_silence (length room.old) }
@@ -79,7 +79,7 @@ fn write_headers<K: Sink>(channels: u8, room: &mut [u8], output: &mut K) -> Resu
 }
 
 /// Writes the page of the frame with this number.
-fn write_frame<K: Sink>(
+pub(crate) fn write_frame<K: Sink>(
     flags: u8,
     granule: u64,
     number: u64,
@@ -100,7 +100,7 @@ fn write_frame<K: Sink>(
 }
 
 /// Writes the pages of the first frames, of so many samples each. None of them ends the stream.
-fn write_frames<K: Sink>(
+pub(crate) fn write_frames<K: Sink>(
     samples: u64,
     count: u64,
     packet: &[u8],

@@ -2,6 +2,7 @@
 //! of an Ogg stream one after the other, and the work on each of them.
 #![tactic(auto)]
 
+mod batch;
 mod choice;
 mod coding;
 mod decoding;
@@ -9,14 +10,20 @@ mod encode;
 mod encoding;
 mod encoding_laws;
 mod fed;
+mod frame_work;
 mod giving;
 mod laws;
 mod lines;
+mod packer;
+mod packet_writer;
+mod packing;
+mod plan;
 mod playing;
 mod reading;
 mod samples;
 mod session;
 mod settings;
+mod silent_work;
 mod stream;
 pub mod text;
 mod wave;
