@@ -1,14 +1,13 @@
 -- What clap's parse of a command of options says, as options that the words write.
-use Rattle.std.proofs.Common.{◌≡◌, ℕ, ◌⊎◌, inl, inr, Bool, true, false, List, [], ◌∷◌, map, refl, sym, ◌∙◌, ap, subst, Option, Some, None, is_some, string_bytes, suc, length, arith, ap₂, codes, not, String, Global}
-use Rattle.std.specs.Prelude.{◌||◌, find, fold, option_map, option_and_then, slice_get, if◌then◌else◌}
+use Rattle.std.proofs.Common.{◌≡◌, ℕ, inl, inr, Bool, true, false, List, [], ◌∷◌, map, refl, sym, ◌∙◌, ap, subst, Option, Some, None, is_some, string_bytes, suc, length, arith, ap₂, codes, not, String, Global}
+use Rattle.std.specs.Prelude.{◌||◌, find, option_map, option_and_then, slice_get, if◌then◌else◌}
 use Rattle.std.specs.Str.{bytes_eq}
 use Rattle.clap.specs.Walk.{Row, first_of, all_of}
-use Rattle.clap.specs.Words.{App, HasMatchesOf, found_of, rows_of, is_simple, kind_of, first_value, matched_of}
+use Rattle.clap.specs.Words.{App, HasMatchesOf, found_of, rows_of, kind_of, first_value, matched_of}
 use Rattle.clap.specs.Matches.{raw_values}
 use Rattle.clap.specs.Faults.{fault_of, is_simple_and_free}
-use Rattle.clap.specs.Kinds.{Kinds, IsAmong, HasKind}
+use Rattle.clap.specs.Kinds.{HasKind}
 use Rattle.clap.specs.declared.error.Error.{Error}
-use Rattle.clap.specs.declared.error.kind.ErrorKind.{ErrorKind}
 use Rattle.clap.specs.declared.error.kind.ErrorKind.TheVariants as kind
 use Rattle.clap.specs.declared.parser.matches.ArgMatches.{ArgMatches}
 use Rattle.clap.specs.declared.parser.matches.Found.{Found}
@@ -16,10 +15,9 @@ use Rattle.clap.specs.declared.parser.matches.MatchedArg.{MatchedArg}
 use Rattle.clap.proofs.WalkLemmas.{first_value-rows, raw_values-rows}
 use Rattle.std.proofs.lemmas.Slice.Eq.{bytes_eq-Decides}
 use Rattle.celt_session.specs.declared.settings.Form.{Form}
-use Rattle.celt_session.specs.declared.settings.Form.TheVariants.{Wav, Plain, Ranges}
-use Rattle.celt_cli.specs.declared.words.Command.{Command}
-use Rattle.celt_cli.specs.declared.words.Command.TheVariants.{Decode, Encode}
-use Rattle.celt_cli.specs.Words.{decode_settings, decode_options, decode_by, encode_options, encode_by, encode_with, bytes_in, frame_in, band_in, ranges_by, command_in, command_of}
+use Rattle.celt_session.specs.declared.settings.Form.TheVariants.{Wav, Plain}
+use Rattle.celt_cli.specs.declared.words.Command.TheVariants.{Decode}
+use Rattle.celt_cli.specs.Words.{decode_settings, decode_options, decode_by, encode_options, encode_by, encode_with, bytes_in, frame_in, band_in, group_in, gen_options, gen_by, gen_with, seed_in, frames_in, ranges_by, command_in, command_of}
 use Rattle.celt_cli.specs.Options.{Text, Known, Given, has_option, value_of, options_in}
 use Rattle.celt_cli.specs.Parses.{HasOptions, IsParse, app_for, row_for, rows_for}
 use Rattle.celt_cli.proofs.OptionWalks.{fails}
@@ -97,12 +95,14 @@ pub decode_is : (form : Form) (raw plain : Bool) (gs : List Given) → form ≡ 
 decode_is form raw plain gs f r p =
     ap₂ (λ (x : Form) (b : Bool). Some (Decode (record { form = x; invert = b }))) (f ∙ ap (λ b. if b then Plain else Wav) r) (ap not p)
 
-pub encode_is : (bytes frame band : Option ℕ) (gs : List Given) → bytes ≡ bytes_in (value_of (codes "bytes") gs) → frame ≡ frame_in (value_of (codes "frame") gs) → band ≡ band_in (value_of (codes "band") gs)
-    → encode_with bytes frame band ≡ encode_by (Some gs)
-encode_is bytes frame band gs b f n =
-    ap (λ x. encode_with x frame band) b
-    ∙ ap (λ x. encode_with (bytes_in (value_of (codes "bytes") gs)) x band) f
-    ∙ ap (λ x. encode_with (bytes_in (value_of (codes "bytes") gs)) (frame_in (value_of (codes "frame") gs)) x) n
+pub encode_is : (bytes frame band group : Option ℕ) (gs : List Given) → bytes ≡ bytes_in (value_of (codes "bytes") gs) → frame ≡ frame_in (value_of (codes "frame") gs)
+    → band ≡ band_in (value_of (codes "band") gs) → group ≡ group_in (value_of (codes "group") gs) → encode_with bytes frame band group ≡ encode_by (Some gs)
+encode_is bytes frame band group gs b f n g =
+    ap₂ (λ x y. encode_with x y band group) b f
+    ∙ ap₂ (encode_with (bytes_in (value_of (codes "bytes") gs)) (frame_in (value_of (codes "frame") gs))) n g
+
+pub gen_is : (seed frames : Option ℕ) (gs : List Given) → seed ≡ seed_in (value_of (codes "seed") gs) → frames ≡ frames_in (value_of (codes "frames") gs) → gen_with seed frames ≡ gen_by (Some gs)
+gen_is seed frames gs s f = ap₂ gen_with s f
 
 -- ---- THE COMMAND'S NAME
 
@@ -118,19 +118,25 @@ ranges_named : (words : List Text) → command_in (codes "ranges" ∷ words) ≡
 unfolding command_in
 ranges_named words = refl
 
+gen_named : (words : List Text) → command_in (codes "gen" ∷ words) ≡ gen_by (options_in gen_options words)
+unfolding command_in
+gen_named words = refl
+
 no_match : (x y : Text) → (x ≡ y → ⊥) → bytes_eq x y ≡ false
 no_match x y n = by (bytes_eq x y) refl where
   by : (b : Bool) → bytes_eq x y ≡ b → b ≡ false
   by true e = absurd (n ((bytes_eq-Decides x y).0 e))
   by false e = refl
 
-none_named : (name : Text) (words : List Text) → (name ≡ codes "decode" → ⊥) → (name ≡ codes "encode" → ⊥) → (name ≡ codes "ranges" → ⊥) → command_in (name ∷ words) ≡ None
+none_named : (name : Text) (words : List Text) → (name ≡ codes "decode" → ⊥) → (name ≡ codes "encode" → ⊥) → (name ≡ codes "ranges" → ⊥) → (name ≡ codes "gen" → ⊥) → command_in (name ∷ words) ≡ None
 unfolding command_in
-none_named name words d e r =
-    ap (λ b. if b then decode_by (options_in decode_options words) else
-    (if bytes_eq name (codes "encode") then encode_by (options_in encode_options words) else (if bytes_eq name (codes "ranges") then ranges_by (options_in [] words) else None))) (no_match name (codes "decode") d)
-    ∙ ap (λ b. if b then encode_by (options_in encode_options words) else (if bytes_eq name (codes "ranges") then ranges_by (options_in [] words) else None)) (no_match name (codes "encode") e)
-    ∙ ap (λ b. if b then ranges_by (options_in [] words) else None) (no_match name (codes "ranges") r)
+none_named name words d e r g =
+    ap (λ b. if b then decode_by (options_in decode_options words) else (if bytes_eq name (codes "encode") then encode_by (options_in encode_options words) else
+    (if bytes_eq name (codes "ranges") then ranges_by (options_in [] words) else (if bytes_eq name (codes "gen") then gen_by (options_in gen_options words) else None)))) (no_match name (codes "decode") d)
+    ∙ ap (λ b. if b then encode_by (options_in encode_options words) else
+    (if bytes_eq name (codes "ranges") then ranges_by (options_in [] words) else (if bytes_eq name (codes "gen") then gen_by (options_in gen_options words) else None))) (no_match name (codes "encode") e)
+    ∙ ap (λ b. if b then ranges_by (options_in [] words) else (if bytes_eq name (codes "gen") then gen_by (options_in gen_options words) else None)) (no_match name (codes "ranges") r)
+    ∙ ap (λ b. if b then gen_by (options_in gen_options words) else None) (no_match name (codes "gen") g)
 
 -- the words are these, and the name is this text
 named : (ws : List (String Global)) (name : String Global) (rest : List (String Global)) (text : Text) → ws ≡ name ∷ rest → text ≡ string_bytes name → command_of ws ≡ command_in (text ∷ map string_bytes rest)
@@ -153,6 +159,10 @@ pub names_ranges : (ws : List (String Global)) (name : String Global) (rest : Li
     → command_of ws ≡ ranges_by (options_in [] (map string_bytes rest))
 names_ranges ws name rest text is t e = named ws name rest text is t ∙ ap (λ n. command_in (n ∷ map string_bytes rest)) e ∙ ranges_named (map string_bytes rest)
 
+pub names_gen : (ws : List (String Global)) (name : String Global) (rest : List (String Global)) (text : Text) → ws ≡ name ∷ rest → text ≡ string_bytes name → text ≡ codes "gen"
+    → command_of ws ≡ gen_by (options_in gen_options (map string_bytes rest))
+names_gen ws name rest text is t e = named ws name rest text is t ∙ ap (λ n. command_in (n ∷ map string_bytes rest)) e ∙ gen_named (map string_bytes rest)
+
 pub names_none : (ws : List (String Global)) (name : String Global) (rest : List (String Global)) (text : Text) → ws ≡ name ∷ rest → text ≡ string_bytes name
-    → (text ≡ codes "decode" → ⊥) → (text ≡ codes "encode" → ⊥) → (text ≡ codes "ranges" → ⊥) → None ≡ command_of ws
-names_none ws name rest text is t d e r = sym (named ws name rest text is t ∙ none_named text (map string_bytes rest) d e r)
+    → (text ≡ codes "decode" → ⊥) → (text ≡ codes "encode" → ⊥) → (text ≡ codes "ranges" → ⊥) → (text ≡ codes "gen" → ⊥) → None ≡ command_of ws
+names_none ws name rest text is t d e r g = sym (named ws name rest text is t ∙ none_named text (map string_bytes rest) d e r g)

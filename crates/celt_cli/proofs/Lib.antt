@@ -4,3 +4,4 @@ pub mod Generating
 pub mod Noting
 pub mod OptionCommands
 pub mod OptionWalks
+pub mod Unbuilt

@@ -1,12 +1,9 @@
 -- The line of a fault, put part by part.
-use Rattle.std.proofs.Common.{◌≡◌, ℕ, ◌+◌, ◌^◌, ◌<◌, ◌≤◌, List, [], ◌∷◌, ◌++◌, length, take, refl, sym, ◌∙◌, ap, subst, arith, length-append, codes}
+use Rattle.std.proofs.Common.{ℕ, List, ◌++◌, codes}
 use Rattle.std.specs.Fmt.{decimal}
-use Rattle.std.proofs.lemmas.Fmt.{length-decimal-le}
 use Rattle.celt_session.specs.Texts.{IsPut}
-use Rattle.celt_session.proofs.Putting.{put_then, decimal_short}
-use Rattle.celt_base.specs.declared.status.Fault.{Fault}
-use Rattle.celt_cli.specs.declared.notes.Place.{Place}
-use Rattle.celt_cli.specs.Notes.{labelled_of, opening_of, details_of, number_of, word_of, place_of, place_word, refusal_of}
+use Rattle.celt_session.proofs.Putting.{put_then}
+use Rattle.celt_cli.specs.Notes.{labelled_of, opening_of}
 
 pub labelled_put : (o0 o1 o2 o3 o4 : List ℕ) (at a1 a2 a3 end : ℕ) (label : List ℕ) (number : ℕ)
     → IsPut o0 o1 at a1 (codes " ") → IsPut o1 o2 a1 a2 label → IsPut o2 o3 a2 a3 (codes " ") → IsPut o3 o4 a3 end (decimal number)

@@ -1,6 +1,6 @@
 -- A command of options: how clap builds it, and what it makes of all words.
-use Rattle.std.proofs.Common.{◌≡◌, ℕ, ◌+◌, Bool, true, false, not, List, [], ◌∷◌, map, refl, sym, ◌∙◌, ap, subst, Option, Some, None, is_some}
-use Rattle.std.specs.Prelude.{◌&&◌, ◌||◌, if◌then◌else◌, find, fold, option_map, option_and_then, count_by, codes}
+use Rattle.std.proofs.Common.{◌≡◌, ℕ, Bool, true, false, not, List, [], ◌∷◌, map, refl, ◌∙◌, ap, Option, Some, None, is_some}
+use Rattle.std.specs.Prelude.{◌&&◌, ◌||◌, if◌then◌else◌, find, fold, count_by}
 use Rattle.std.specs.List.{list_any, list_all}
 use Rattle.std.specs.Option.{option_map_or}
 use Rattle.std.specs.Str.{bytes_eq}
@@ -9,12 +9,10 @@ use Rattle.clap.specs.Simple.{App, Shape, new_rule, new_shape, built, entered, f
 use Rattle.clap.specs.Faults.{fault_of, is_simple_and_free, defaults_fault, default_fault, check_fault, entered_fault, settle_fault, walk_fault}
 use Rattle.clap.specs.Takes.{is_given}
 use Rattle.clap.specs.Kinds.{Kinds, or_else}
-use Rattle.clap.specs.declared.builder.action.ArgAction.TheVariants.{Set}
-use Rattle.clap.specs.declared.builder.range.ValueRange.{ValueRange}
 use Rattle.clap.specs.declared.error.kind.ErrorKind.TheVariants as kind
 use Rattle.celt_cli.specs.Options.{Text, Known, Given, has_option, options_from, has_required, with_required, options_in}
 use Rattle.celt_cli.specs.Parses.{declared_by, declared, app_for, row_for, rows_for}
-use Rattle.celt_cli.proofs.OptionWalks.{rule_by, rule_for, rules_for, shape_for, fails, fault_from, rows_from, or_first, or_second, held, Finds, idle_words}
+use Rattle.celt_cli.proofs.OptionWalks.{rule_by, rule_for, rules_for, shape_for, fails, fault_from, rows_from, or_first, or_second, Finds, idle_words}
 
 -- ---- BUILDING
 

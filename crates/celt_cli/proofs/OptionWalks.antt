@@ -1,12 +1,11 @@
 -- How a parse by clap walks over words: it fails just where the words write no options, and finds the options that they write.
-use Rattle.std.proofs.Common.{◌≡◌, ℕ, zero, suc, Bool, true, false, not, List, [], ◌∷◌, ◌++◌, length, map, refl, sym, ◌∙◌, ap, subst, append-nil, Option, Some, None, is_some}
-use Rattle.std.specs.Prelude.{◌&&◌, ◌||◌, ◌==◌, if◌then◌else◌, find, fold, option_map, option_and_then, slice_get, drop, encode_utf8, nat_lt, codes}
-use Rattle.std.specs.List.{list_any, list_all}
+use Rattle.std.proofs.Common.{◌≡◌, ℕ, Bool, true, false, not, List, [], ◌∷◌, ◌++◌, length, map, refl, sym, ◌∙◌, ap, subst, append-nil, Option, Some, None, is_some}
+use Rattle.std.specs.Prelude.{◌&&◌, ◌||◌, ◌==◌, if◌then◌else◌, fold, option_map, option_and_then, slice_get, drop, encode_utf8, nat_lt, codes}
 use Rattle.std.specs.Option.{option_map_or}
 use Rattle.std.specs.Str.{bytes_eq, chars}
 use Rattle.std.proofs.lemmas.Slice.Eq.{bytes_eq-Decides}
 use Rattle.clap.specs.Lexer.{long_of, short_of, short_of_rest, strip_byte}
-use Rattle.clap.specs.Walk.{Held, Row, Rule, Walk, Waiting, Step, Outcome, arg_by_id, arg_by_index, arg_by_long, arg_by_short, has_row, at_row, without, with_values, more_values, used, settled, reacted, walked, walk_from, nothing_held, bundle_met, bundle, long_met, long_word, short_or_plain, pushed, after_step, after_flag, bundle_step, long_or_other, plain_word, option_word as option_word_met, takes_values, most_values, used_by_id}
+use Rattle.clap.specs.Walk.{Held, Row, Rule, Walk, Waiting, Step, arg_by_id, arg_by_index, arg_by_long, arg_by_short, has_row, at_row, without, with_values, more_values, used, settled, reacted, walked, walk_from, bundle_met, bundle, long_met, short_or_plain, after_step, after_flag, bundle_step, long_or_other, plain_word, option_word as option_word_met, takes_values, most_values, used_by_id}
 use Rattle.clap.specs.Walk.Waiting.{idle, option}
 use Rattle.clap.specs.Walk.Step.{next as next_step, trailing as trailing_step, value as value_step}
 use Rattle.clap.specs.Walk.Outcome.{plain as plain_outcome}
@@ -20,7 +19,7 @@ use Rattle.clap.specs.declared.builder.value_parser.Reading.TheVariants as readi
 use Rattle.clap.specs.declared.error.kind.ErrorKind.TheVariants as kind
 use Rattle.clap.specs.declared.parser.matches.ValueSource.TheVariants.{CommandLine}
 use Rattle.celt_cli.specs.Parses.{row_for, rows_for}
-use Rattle.celt_cli.specs.Options.{Text, Known, Given, known_by, has_option, is_ending, is_short, is_value, is_last, Next, given, written_as, written, option_word, first_word, next_word, at_end, options_from}
+use Rattle.celt_cli.specs.Options.{Text, Known, Given, known_by, has_option, is_ending, is_last, given, written_as, written, first_word, options_from}
 
 -- ---- THE COMMAND, AS IT IS BUILT
 

@@ -1,15 +1,19 @@
 -- What a run says on the notes.
-use Rattle.std.specs.Prelude.{◌⊎◌, ℕ, List, [], Option, ⊤}
+use Rattle.std.specs.Prelude.{◌⊎◌, ◌==◌, if◌then◌else◌, ℕ, Bool, true, false, List, [], Option, Some, IfSome, ⊤}
 use Rattle.std.specs.Io.KnownBytes.{Appends, Keeps}
 use Rattle.celt_base.specs.declared.status.Status.{Status}
 use Rattle.celt_base.specs.declared.status.Status.TheVariants as statuses
 use Rattle.celt_base.specs.Outside.{Rose, AppendsFront}
-use Rattle.celt_session.specs.Outcomes.{Writes, WritesFront}
+use Rattle.celt_base.specs.declared.status.Fault.{Fault}
+use Rattle.celt_base.specs.declared.status.FaultName.TheVariants as names
+use Rattle.celt_session.specs.declared.settings.Settings.{Settings}
+use Rattle.celt_session.specs.Outcomes.{Meaning, Writes, WritesFront}
 use Rattle.celt_session.specs.Decoding.{decoding}
 use Rattle.celt_session.specs.Encoding.{encoding}
 use Rattle.celt_cli.specs.declared.words.Command.{Command}
-use Rattle.celt_cli.specs.declared.words.Command.TheVariants.{Decode, Encode}
+use Rattle.celt_cli.specs.declared.words.Command.TheVariants.{Decode, Encode, Gen}
 use Rattle.celt_cli.specs.declared.notes.Place.{Place}
+use Rattle.celt_cli.specs.declared.notes.Place.TheVariants.{Page, Byte}
 use Rattle.celt_cli.specs.Notes.{usage, refusal_of}
 
 -- the line that a status gives, given what the place of a fault counts where a form is not built
@@ -46,7 +50,44 @@ AnswersUsage statuses.InputTooLong = ⊥
 abbrev pub EitherRose : ℕ → ℕ → ℕ → ℕ → Type 0
 EitherRose output_old output_new notes_old notes_new = Rose output_old output_new ⊎ Rose notes_old notes_new
 
+-- ---- WHAT A COMMAND MAKES OF ITS INPUT
+
+-- the fault of a form that is not built: at the beginning, whatever the input
+abbrev pub not_built : Fault
+not_built = record { name = names.NotBuilt; at = 0 }
+
+abbrev pub unbuilt_meaning : Meaning
+unbuilt_meaning = record { full = λ bytes. []; running = λ bytes. []; fault_of = λ bytes. Some not_built; is_end = λ name. false }
+
+-- packets of more than one frame are not built
+abbrev pub encoding_for : Settings → Meaning
+encoding_for settings = if settings.group == 1 then encoding settings else unbuilt_meaning
+
+-- `gen` is not built
+abbrev pub meaning_of : Command → Meaning
+meaning_of (Decode settings) = decoding settings
+meaning_of (Encode settings) = encoding_for settings
+meaning_of (Gen settings) = unbuilt_meaning
+
+-- what the place of a fault counts where a form is not built
+abbrev pub unbuilt_of : Command → Place
+unbuilt_of (Decode settings) = Page
+unbuilt_of (Encode settings) = Byte
+unbuilt_of (Gen settings) = Byte
+
+-- the bytes that a command reads: those of the input, where it tells them; `gen` reads none
+abbrev pub IfReads : Command → Option (List ℕ) → (List ℕ → Type 0) → Type 0
+IfReads (Decode settings) left P = IfSome left P
+IfReads (Encode settings) left P = IfSome left P
+IfReads (Gen settings) left P = P []
+
+abbrev pub reads : Command → Bool
+reads (Decode settings) = true
+reads (Encode settings) = true
+reads (Gen settings) = false
+
 -- what a command added to the output, where so much of the input is left
 abbrev pub Wrote : Command → ℕ → List ℕ → Option (List ℕ) → Option (List ℕ) → Option (List ℕ) → Status → Type 0
 Wrote (Decode settings) limit bytes left old new status = Writes (decoding settings) limit bytes left old new status
-Wrote (Encode settings) limit bytes left old new status = WritesFront (encoding settings) limit bytes old new status
+Wrote (Encode settings) limit bytes left old new status = WritesFront (encoding_for settings) limit bytes old new status
+Wrote (Gen settings) limit bytes left old new status = WritesFront unbuilt_meaning limit bytes old new status

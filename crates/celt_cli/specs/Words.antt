@@ -1,17 +1,12 @@
 -- The words that are accepted, and what they ask for.
-use Rattle.std.specs.Prelude.{◌≡◌, ℕ, ⊤, ◌≤◌, ◌+◌, ◌-◌, ◌*◌, ◌==◌, Bool, true, false, not, ◌&&◌, ◌||◌, List, [], ◌∷◌, length, map, Option, None, Some, String, string_bytes, codes, nat_le, if◌then◌else◌}
+use Rattle.std.specs.Prelude.{◌≡◌, ◌⊎◌, ℕ, ⊤, ◌≤◌, ◌+◌, ◌-◌, ◌*◌, ◌==◌, Bool, true, false, not, ◌&&◌, ◌||◌, List, [], ◌∷◌, length, map, Option, None, Some, String, string_bytes, codes, nat_le, if◌then◌else◌}
 use Rattle.std.specs.Str.{bytes_eq}
 use Rattle.std.specs.declared.alloc.Global.{Global}
 use Rattle.celt_session.specs.declared.settings.Form.TheVariants.{Wav, Plain, Ranges}
 use Rattle.celt_session.specs.declared.settings.DecodeSettings.{DecodeSettings}
 use Rattle.celt_session.specs.declared.settings.Settings.{Settings}
-use Rattle.celt_session.specs.Outcomes.{Meaning}
-use Rattle.celt_session.specs.Decoding.{decoding}
-use Rattle.celt_session.specs.Encoding.{IsSettings, encoding}
 use Rattle.celt_cli.specs.declared.words.Command.{Command}
-use Rattle.celt_cli.specs.declared.words.Command.TheVariants.{Decode, Encode}
-use Rattle.celt_cli.specs.declared.notes.Place.{Place}
-use Rattle.celt_cli.specs.declared.notes.Place.TheVariants.{Page, Byte}
+use Rattle.celt_cli.specs.declared.words.Command.TheVariants.{Decode, Encode, Gen}
 use Rattle.celt_cli.specs.Options.{Text, Known, Given, has_option, options_in, value_of}
 
 -- ---- NUMBERS
@@ -57,16 +52,18 @@ abbrev pub option_with_value : Text → Bool → Known
 option_with_value name required = record { name = name; takes_value = true; is_required = required }
 
 abbrev pub encode_options : List Known
-encode_options = option_with_value (codes "bytes") true ∷ option_with_value (codes "frame") false ∷ option_with_value (codes "band") false ∷ []
+encode_options =
+    option_with_value (codes "bytes") true ∷ option_with_value (codes "frame") false ∷ option_with_value (codes "band") false
+    ∷ option_with_value (codes "group") false ∷ []
 
--- 2 to 1275
-abbrev pub within_bytes : Option ℕ → Option ℕ
-within_bytes None = None
-within_bytes (Some bytes) = if nat_le 2 bytes && nat_le bytes 1275 then Some bytes else None
+-- a number from the least to the most
+abbrev pub within : ℕ → ℕ → Option ℕ → Option ℕ
+within least most None = None
+within least most (Some number) = if nat_le least number && nat_le number most then Some number else None
 
 abbrev pub bytes_in : Option Text → Option ℕ
 bytes_in None = None
-bytes_in (Some text) = within_bytes (number_in text)
+bytes_in (Some text) = within 2 1275 (number_in text)
 
 -- one of the four sizes, the longest where none is asked for
 abbrev pub one_of_sizes : Option ℕ → Option ℕ
@@ -84,16 +81,49 @@ band_in (Some text) =
     if bytes_eq text (codes "nb") then Some 0 else (if bytes_eq text (codes "wb") then Some 1 else
     (if bytes_eq text (codes "swb") then Some 2 else (if bytes_eq text (codes "fb") then Some 3 else None)))
 
-abbrev pub encode_with : Option ℕ → Option ℕ → Option ℕ → Option Command
-encode_with None frame band = None
-encode_with (Some bytes) None band = None
-encode_with (Some bytes) (Some frame) None = None
-encode_with (Some bytes) (Some frame) (Some band) = Some (Encode (record { bytes = bytes; frame = frame; band = band; group = 1 }))
+-- the frames of a packet, 1 to 48; one where nothing is said
+abbrev pub group_in : Option Text → Option ℕ
+group_in None = Some 1
+group_in (Some text) = within 1 48 (number_in text)
+
+-- a packet has at most 5760 samples (RFC 6716, section 3.2.5)
+abbrev pub with_group : Settings → Option Command
+with_group settings = if nat_le (settings.group * settings.frame) 5760 then Some (Encode settings) else None
+
+abbrev pub encode_with : Option ℕ → Option ℕ → Option ℕ → Option ℕ → Option Command
+encode_with None frame band group = None
+encode_with (Some bytes) None band group = None
+encode_with (Some bytes) (Some frame) None group = None
+encode_with (Some bytes) (Some frame) (Some band) None = None
+encode_with (Some bytes) (Some frame) (Some band) (Some group) = with_group (record { bytes = bytes; frame = frame; band = band; group = group })
 
 abbrev pub encode_by : Option (List Given) → Option Command
 encode_by None = None
 encode_by (Some givens) =
-    encode_with (bytes_in (value_of (codes "bytes") givens)) (frame_in (value_of (codes "frame") givens)) (band_in (value_of (codes "band") givens))
+    encode_with (bytes_in (value_of (codes "bytes") givens)) (frame_in (value_of (codes "frame") givens))
+    (band_in (value_of (codes "band") givens)) (group_in (value_of (codes "group") givens))
+
+-- ---- GEN
+
+abbrev pub gen_options : List Known
+gen_options = option_with_value (codes "seed") true ∷ option_with_value (codes "frames") true ∷ []
+
+abbrev pub seed_in : Option Text → Option ℕ
+seed_in None = None
+seed_in (Some text) = within 0 4294967295 (number_in text)
+
+abbrev pub frames_in : Option Text → Option ℕ
+frames_in None = None
+frames_in (Some text) = within 1 10000 (number_in text)
+
+abbrev pub gen_with : Option ℕ → Option ℕ → Option Command
+gen_with None frames = None
+gen_with (Some seed) None = None
+gen_with (Some seed) (Some frames) = Some (Gen (record { seed = seed; frames = frames }))
+
+abbrev pub gen_by : Option (List Given) → Option Command
+gen_by None = None
+gen_by (Some givens) = gen_with (seed_in (value_of (codes "seed") givens)) (frames_in (value_of (codes "frames") givens))
 
 -- ---- ALL WORDS: the command's name, and its options
 
@@ -102,22 +132,29 @@ command_in [] = None
 command_in (name ∷ words) =
     if bytes_eq name (codes "decode") then decode_by (options_in decode_options words) else
     (if bytes_eq name (codes "encode") then encode_by (options_in encode_options words) else
-    (if bytes_eq name (codes "ranges") then ranges_by (options_in [] words) else None))
+    (if bytes_eq name (codes "ranges") then ranges_by (options_in [] words) else
+    (if bytes_eq name (codes "gen") then gen_by (options_in gen_options words) else None)))
 
 abbrev pub command_of : List (String Global) → Option Command
 command_of words = command_in (map string_bytes words)
 
--- what a command holds
+-- ---- WHAT A COMMAND HOLDS
+
+-- each number of what a stream is encoded with, by itself
+pub record AreWithin (settings : Settings) : Type 0 where
+  pub least : 2 ≤ settings.bytes
+  pub most : settings.bytes ≤ 1275
+  pub frame : (settings.frame ≡ 120) ⊎ (settings.frame ≡ 240) ⊎ (settings.frame ≡ 480) ⊎ (settings.frame ≡ 960)
+  pub band : settings.band ≤ 3
+  pub some : 1 ≤ settings.group
+  pub few : settings.group ≤ 48
+
+-- what a stream is encoded with (RFC 6716, sections 3.1 and 3.2)
+pub record IsAllowed (settings : Settings) : Type 0 where
+  pub within : AreWithin settings
+  pub samples : settings.group * settings.frame ≤ 5760
+
 abbrev pub IsCommand : Command → Type 0
 IsCommand (Decode settings) = ⊤
-IsCommand (Encode settings) = IsSettings settings
-
--- what a command makes of its input
-abbrev pub meaning_of : Command → Meaning
-meaning_of (Decode settings) = decoding settings
-meaning_of (Encode settings) = encoding settings
-
--- what the place of a fault counts where a form is not built
-abbrev pub unbuilt_of : Command → Place
-unbuilt_of (Decode settings) = Page
-unbuilt_of (Encode settings) = Byte
+IsCommand (Encode settings) = IsAllowed settings
+IsCommand (Gen settings) = (1 ≤ settings.frames) × (settings.frames ≤ 10000)

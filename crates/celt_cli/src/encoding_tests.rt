@@ -386,7 +386,7 @@ fn limits(rt: HostRuntime) -> Result<(), AllocError> {
 fn words_of_encode(rt: HostRuntime) -> Result<(), AllocError> {
     let alloc = rt.alloc();
     let bytes = file(alloc, 1, 0, 0)?;
-    let refused: [&[&str]; 19] = [
+    let refused: [&[&str]; 25] = [
         &["encode"],
         &["encode", "--bytes"],
         &["encode", "--bytes", "1"],
@@ -402,7 +402,13 @@ fn words_of_encode(rt: HostRuntime) -> Result<(), AllocError> {
         &["encode", "--bytes", "80", "--bytes", "80"],
         &["encode", "--bytes", "80", "--frame", "100"],
         &["encode", "--bytes", "80", "--band", "mb"],
-        &["encode", "--bytes", "80", "--group", "2"],
+        &["encode", "--bytes", "80", "--group"],
+        &["encode", "--bytes", "80", "--group", "0"],
+        &["encode", "--bytes", "80", "--group", "7"],
+        &["encode", "--bytes", "80", "--group", "49", "--frame=120"],
+        &["encode", "--bytes", "80", "--group", "13", "--frame=480"],
+        &["encode", "--group", "1", "--bytes", "80", "--group", "1"],
+        &["encode", "--group", "2"],
         &["encode", "--bytes", "80", "--", "x"],
         &["encode", "--byte", "80"],
         &["decode", "--bytes", "80"],
@@ -413,8 +419,9 @@ fn words_of_encode(rt: HostRuntime) -> Result<(), AllocError> {
         assert!(rt; got.output.is_empty());
         assert_eq!(rt; got.notes.as_slice(), b"celt: usage\n".as_slice());
     }
-    let accepted: [(&[&str], usize); 5] = [
+    let accepted: [(&[&str], usize); 6] = [
         (&["encode", "--bytes", "2"], 2),
+        (&["encode", "--bytes", "2", "--group=0000000001"], 2),
         (&["encode", "--bytes", "0000000005"], 5),
         (&["encode", "--bytes", "1275"], 1275),
         (&["encode", "--bytes=80"], 80),
@@ -425,6 +432,31 @@ fn words_of_encode(rt: HostRuntime) -> Result<(), AllocError> {
         assert_eq!(rt; got.status, Status::Done);
         // Two pages of headers, a page's header, its lacing values, and the packet.
         assert_eq!(rt; got.output.len(), 95 + 27 + (len + 1) / 255 + 1 + len + 1);
+    }
+    Ok(())
+}
+
+// Packets of more than one frame are not built: nothing is read and nothing is written but the note.
+#[test]
+fn groups(rt: HostRuntime) -> Result<(), AllocError> {
+    let alloc = rt.alloc();
+    let accepted: [&[&str]; 3] = [
+        &["encode", "--bytes", "80", "--group", "6"],
+        &["encode", "--frame=120", "--group=48", "--bytes=2"],
+        &["encode", "--frame=240", "--bytes=2", "--group=24", "--"],
+    ];
+    for words in accepted {
+        let read = Failing {
+            read: Some(0),
+            ..NONE_FAILS
+        };
+        let got = attempt(&rt, alloc, words, b"RIFF", 1, read)?;
+        assert_eq!(rt; got.status, refused(FaultName::NotBuilt, 0));
+        assert!(rt; got.output.is_empty());
+        assert_eq!(rt;
+            got.notes.as_slice(),
+            b"celt: 99 NotBuilt byte 0\n".as_slice()
+        );
     }
     Ok(())
 }

@@ -11,6 +11,14 @@ const LEFT_PERIOD: u32 = 200;
 /// The period of the right channel's sawtooth, in samples.
 const RIGHT_PERIOD: u32 = 151;
 
+/// What `gen` makes: so many frames of the samples of a seed.
+#[derive(Clone, Copy, Debug, PartialEq, Eq)]
+pub struct GenSettings {
+    pub seed: u32,
+    /// The frames of 960 samples, 1 to 10000.
+    pub frames: u32,
+}
+
 /// Samples that are made of a seed, pair after pair, without an end. It takes no memory.
 #[derive(Clone, Copy, Debug, PartialEq, Eq)]
 pub struct GenSamples {

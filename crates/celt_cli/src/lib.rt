@@ -3,6 +3,8 @@
 
 #[cfg(test)]
 mod encoding_tests;
+#[cfg(test)]
+mod gen_tests;
 pub mod generator;
 #[cfg(test)]
 mod generator_tests;

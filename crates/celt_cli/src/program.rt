@@ -1,15 +1,15 @@
 //! The program over a source and two sinks.
-ghost use Rattle.std.specs.Prelude.{◌≡◌, ◌≢◌, ◌^◌, ◌≤◌, IfSome, None, Some};
+ghost use Rattle.std.specs.Prelude.{◌≡◌, ◌≢◌, ◌^◌, ◌≤◌, false, IfSome, None, Some};
 ghost use Rattle.celt_base.specs.Outside.{Rose};
-ghost use Rattle.celt_session.specs.Outcomes.{wanted, Answers};
-ghost use Rattle.celt_cli.specs.Runs.{AnswersUsage, EitherRose, Says, Wrote};
-ghost use Rattle.celt_cli.specs.Words.{IsCommand, command_of, meaning_of, unbuilt_of};
+ghost use Rattle.celt_session.specs.Outcomes.{wanted, Answers, WritesFront};
+ghost use Rattle.celt_cli.specs.Runs.{AnswersUsage, EitherRose, Says, IfReads, Wrote, encoding_for, meaning_of, not_built, reads, unbuilt_of};
+ghost use Rattle.celt_cli.specs.Words.{IsAllowed, IsCommand, command_of};
 
 use crate::notes::{MOST_LINE, Place, put_refusal};
 use crate::words::{Command, command_in};
 use celt_base::outside::{Gate, Sink, Source};
-use celt_base::status::{Fault, Status};
-use celt_session::{decode_stream, encode_stream};
+use celt_base::status::{Fault, FaultName, Status};
+use celt_session::{Settings, decode_stream, encode_stream};
 use std::alloc::Global;
 use std::thread::Threads;
 
@@ -53,7 +53,42 @@ fn unbuilt(command: Command) -> Place
     match command {
         Command::Decode(_) => Place::Page,
         Command::Encode(_) => Place::Byte,
+        Command::Gen(_) => Place::Byte,
     }
+}
+
+/// The answer of a form that is not built.
+fn refuse_unbuilt() -> Status
+    ensures { result ≡ Status.Refused not_built }
+{
+    Status::Refused(Fault {
+        name: FaultName::NotBuilt,
+        at: 0,
+    })
+}
+
+/// Encodes the input. Packets of more than one frame are not built.
+fn run_encode<R: Threads, S: Source, K: Sink, G: Gate>(
+    rt: &R,
+    alloc: Global,
+    settings: Settings,
+    input: &mut S,
+    output: &mut K,
+    gate: &G,
+) -> Status
+    requires { IsAllowed settings }
+    ensures status { IfSome (S.left input.old) (λ bytes. Answers (wanted (encoding_for settings) (2 ^ 40) bytes) result) }
+    ensures output { IfSome (S.left input.old) (λ bytes. WritesFront (encoding_for settings) (2 ^ 40) bytes (K.held output.old) (K.held output.new) result) }
+    ensures memory { result ≡ Status.NoMemory → output.new ≡ output.old }
+    ensures read_fault { result ≡ Status.ReadFault → Rose (S.faults input.old) (S.faults input.new) }
+    ensures write_fault { result ≡ Status.WriteFault → Rose (K.faults output.old) (K.faults output.new) }
+    ensures words { result ≢ Status.Usage }
+    ensures kept { K.faults output.old ≤ K.faults output.new }
+{
+    if settings.group != 1 {
+        return refuse_unbuilt();
+    }
+    encode_stream(rt, alloc, settings, LIMIT, input, output, gate)
 }
 
 /// Runs a command.
@@ -66,8 +101,10 @@ fn run_command<R: Threads, S: Source, K: Sink, G: Gate>(
     gate: &G,
 ) -> Status
     requires { IsCommand command }
-    ensures status { IfSome (S.left input.old) (λ bytes. Answers (wanted (meaning_of command) (2 ^ 40) bytes) result) }
-    ensures output { IfSome (S.left input.old) (λ bytes. Wrote command (2 ^ 40) bytes (S.left input.new) (K.held output.old) (K.held output.new) result) }
+    ensures status { IfReads command (S.left input.old) (λ bytes. Answers (wanted (meaning_of command) (2 ^ 40) bytes) result) }
+    ensures output { IfReads command (S.left input.old) (λ bytes. Wrote command (2 ^ 40) bytes (S.left input.new) (K.held output.old) (K.held output.new) result) }
+    ensures input { reads command ≡ false → input.new ≡ input.old }
+    ensures never_read { reads command ≡ false → result ≢ Status.ReadFault }
     ensures read_fault { result ≡ Status.ReadFault → Rose (S.faults input.old) (S.faults input.new) }
     ensures write_fault { result ≡ Status.WriteFault → Rose (K.faults output.old) (K.faults output.new) }
     ensures memory { result ≡ Status.NoMemory → output.new ≡ output.old }
@@ -78,9 +115,8 @@ fn run_command<R: Threads, S: Source, K: Sink, G: Gate>(
         Command::Decode(settings) => {
             decode_stream(rt, alloc, settings, LIMIT, input, output, gate)
         }
-        Command::Encode(settings) => {
-            encode_stream(rt, alloc, settings, LIMIT, input, output, gate)
-        }
+        Command::Encode(settings) => run_encode(rt, alloc, settings, input, output, gate),
+        Command::Gen(_) => refuse_unbuilt(),
     }
 }
 
@@ -101,14 +137,16 @@ pub fn run<R: Threads, S: Source, K: Sink, E: Sink, G: Gate>(
     ensures usage_output { command_of words.now ≡ None → output.new ≡ output.old }
     ensures usage_notes { command_of words.now ≡ None → Says Place.Page Status.Usage (E.held notes.old) (E.held notes.new) result }
 
-    // A command: the status and the output are those of its meaning.
+    // A command: the status and the output are those of its meaning. `gen` reads nothing.
     ensures not_usage { IfSome (command_of words.now) (λ command. result ≢ Status.Usage) }
     ensures status { IfSome (command_of words.now) (λ command.
-        IfSome (S.left input.old) (λ bytes. Answers (wanted (meaning_of command) (2 ^ 40) bytes) result)) }
+        IfReads command (S.left input.old) (λ bytes. Answers (wanted (meaning_of command) (2 ^ 40) bytes) result)) }
     ensures output { IfSome (command_of words.now) (λ command.
-        IfSome (S.left input.old) (λ bytes. Wrote command (2 ^ 40) bytes (S.left input.new) (K.held output.old) (K.held output.new) result)) }
+        IfReads command (S.left input.old) (λ bytes. Wrote command (2 ^ 40) bytes (S.left input.new) (K.held output.old) (K.held output.new) result)) }
     ensures notes { IfSome (command_of words.now) (λ command.
-        IfSome (S.left input.old) (λ bytes. Says (unbuilt_of command) (wanted (meaning_of command) (2 ^ 40) bytes) (E.held notes.old) (E.held notes.new) result)) }
+        IfReads command (S.left input.old) (λ bytes. Says (unbuilt_of command) (wanted (meaning_of command) (2 ^ 40) bytes) (E.held notes.old) (E.held notes.new) result)) }
+    ensures gen_input { IfSome (command_of words.now) (λ command. reads command ≡ false → input.new ≡ input.old) }
+    ensures gen_never_read { IfSome (command_of words.now) (λ command. reads command ≡ false → result ≢ Status.ReadFault) }
 
     // All memory is taken before anything is written.
     ensures memory { result ≡ Status.NoMemory → output.new ≡ output.old }

@@ -2,9 +2,10 @@
 ghost use Rattle.std.specs.Prelude.{◌≡◌, ◌≢◌, ◌<◌, ◌≤◌, ◌⊎◌, ℕ, List, [], true, false, map, string_bytes, IfOk, IfSome, Some, None, option_map, if◌then◌else◌};
 ghost use Rattle.clap.specs.Words.{app_of, rule_of};
 ghost use Rattle.celt_cli.specs.Options.{Known, Given, has_option, value_of, options_in};
-ghost use Rattle.celt_cli.specs.Words.{number_in, bytes_in, frame_in, band_in, encode_with, decode_by, encode_by, ranges_by, command_of, IsCommand, decode_options, encode_options};
+ghost use Rattle.celt_cli.specs.Words.{number_in, bytes_in, frame_in, band_in, group_in, seed_in, frames_in, with_group, encode_with, gen_with, decode_by, encode_by, ranges_by, gen_by, command_of, IsCommand, AreWithin, decode_options, encode_options, gen_options};
 ghost use Rattle.celt_cli.specs.Parses.{HasOptions, IsParse, app_for, declared_by};
 
+use crate::generator::GenSettings;
 use celt_base::status::OutOfMemory;
 use celt_session::{DecodeSettings, Form, Settings};
 use clap::builder::ValueRange;
@@ -19,6 +20,8 @@ pub enum Command {
     Decode(DecodeSettings),
     /// A WAV file into a stream.
     Encode(Settings),
+    /// Samples of a seed into a stream, and the stream back into samples.
+    Gen(GenSettings),
 }
 
 /// The number of one to ten decimal digits.
@@ -85,19 +88,87 @@ fn bandwidth(text: Option<&str>) -> Option<u32>
     }
 }
 
+/// The frames of a packet: 1 to 48, one where nothing is said.
+fn group_frames(text: Option<&str>) -> Option<u32>
+    ensures value { result ≡ group_in (option_map (λ s. s.now) text.entry) }
+    ensures range { IfSome result (λ n. (1 ≤ n) × (n ≤ 48)) }
+{
+    let Some(text) = text else {
+        return Some(1);
+    };
+    let frames = number(text.as_bytes())?;
+    if frames < 1 || frames > 48 {
+        return None;
+    }
+    Some(frames as u32)
+}
+
+/// The command that encodes with these settings, where a packet has at most 5760 samples.
+fn encode_grouped(settings: Settings) -> Option<Command>
+    requires { AreWithin settings }
+    ensures value { result ≡ with_group settings }
+    ensures allowed { IfSome result (λ command. IsCommand command) }
+{
+    if settings.group * settings.frame > 5760 {
+        return None;
+    }
+    Some(Command::Encode(settings))
+}
+
 /// The command that encodes with these settings, where each is allowed.
-fn encode_settings(bytes: Option<u32>, frame: Option<u32>, band: Option<u32>) -> Option<Command>
+fn encode_settings(
+    bytes: Option<u32>,
+    frame: Option<u32>,
+    band: Option<u32>,
+    group: Option<u32>,
+) -> Option<Command>
     requires bytes { IfSome bytes (λ n. (2 ≤ n) × (n ≤ 1275)) }
     requires frame { IfSome frame (λ n. (n ≡ 120) ⊎ (n ≡ 240) ⊎ (n ≡ 480) ⊎ (n ≡ 960)) }
     requires band { IfSome band (λ n. n ≤ 3) }
-    ensures value { result ≡ encode_with bytes frame band }
+    requires group { IfSome group (λ n. (1 ≤ n) × (n ≤ 48)) }
+    ensures value { result ≡ encode_with bytes frame band group }
     ensures allowed { IfSome result (λ command. IsCommand command) }
 {
-    Some(Command::Encode(Settings {
+    encode_grouped(Settings {
         bytes: bytes?,
         frame: frame?,
         band: band?,
-        group: 1,
+        group: group?,
+    })
+}
+
+/// The seed of `gen`: a number of 32 bits.
+fn seed_number(text: Option<&str>) -> Option<u32>
+    ensures { result ≡ seed_in (option_map (λ s. s.now) text.entry) }
+{
+    let seed = number(text?.as_bytes())?;
+    if seed > 4_294_967_295 {
+        return None;
+    }
+    Some(seed as u32)
+}
+
+/// The frames of `gen`: 1 to 10000.
+fn frame_count(text: Option<&str>) -> Option<u32>
+    ensures value { result ≡ frames_in (option_map (λ s. s.now) text.entry) }
+    ensures range { IfSome result (λ n. (1 ≤ n) × (n ≤ 10000)) }
+{
+    let frames = number(text?.as_bytes())?;
+    if frames < 1 || frames > 10_000 {
+        return None;
+    }
+    Some(frames as u32)
+}
+
+/// The command `gen` with these settings, where each is allowed.
+fn gen_settings(seed: Option<u32>, frames: Option<u32>) -> Option<Command>
+    requires frames { IfSome frames (λ n. (1 ≤ n) × (n ≤ 10000)) }
+    ensures value { result ≡ gen_with seed frames }
+    ensures allowed { IfSome result (λ command. IsCommand command) }
+{
+    Some(Command::Gen(GenSettings {
+        seed: seed?,
+        frames: frames?,
     }))
 }
 
@@ -142,7 +213,17 @@ fn encode_parser<'a>(alloc: Global) -> Result<Parser<'a>, AllocError>
     plain_parser(alloc)
         .arg(option(alloc, "bytes").required(true))?
         .arg(option(alloc, "frame"))?
-        .arg(option(alloc, "band"))
+        .arg(option(alloc, "band"))?
+        .arg(option(alloc, "group"))
+}
+
+/// The options of `gen`.
+fn gen_parser<'a>(alloc: Global) -> Result<Parser<'a>, AllocError>
+    ensures { IfOk result (λ parser. app_of parser ≡ app_for gen_options) }
+{
+    plain_parser(alloc)
+        .arg(option(alloc, "seed").required(true))?
+        .arg(option(alloc, "frames").required(true))
 }
 
 /// Whether the words were refused, and not the memory.
@@ -235,6 +316,24 @@ fn encode_command(alloc: Global, words: &[String]) -> Result<Option<Command>, Ou
         frame_bytes(value(&matches, "bytes")),
         frame_samples(value(&matches, "frame")),
         bandwidth(value(&matches, "band")),
+        group_frames(value(&matches, "group")),
+    ))
+}
+
+/// `gen` with these words behind it.
+fn gen_command(alloc: Global, words: &[String]) -> Result<Option<Command>, OutOfMemory>
+    ensures value { IfOk result (λ command. command ≡ gen_by (options_in gen_options (map string_bytes words.now))) }
+    ensures allowed { IfOk result (λ command. IfSome command (λ c. IsCommand c)) }
+{
+    let Ok(parser) = gen_parser(alloc) else {
+        return Err(OutOfMemory);
+    };
+    let Some(matches) = parsed(parser, words)? else {
+        return Ok(None);
+    };
+    Ok(gen_settings(
+        seed_number(value(&matches, "seed")),
+        frame_count(value(&matches, "frames")),
     ))
 }
 
@@ -250,6 +349,7 @@ pub fn command_in(alloc: Global, words: &[String]) -> Result<Option<Command>, Ou
         "decode" => decode_command(alloc, options),
         "encode" => encode_command(alloc, options),
         "ranges" => ranges_command(alloc, options),
+        "gen" => gen_command(alloc, options),
         _ => Ok(None),
     }
 }

@@ -1,4 +1,4 @@
-use Rattle.std.proofs.Common.{◌≡◌, ◌+◌, ◌≤◌, length, arith, ap, subst, codes, ◌++◌}
+use Rattle.std.proofs.Common.{◌+◌, ◌≤◌, length, arith, subst, codes}
 use Rattle.celt_session.specs.Texts.{IsPut}
 use Rattle.celt_cli.specs.Notes.{labelled_of}
 use Rattle.celt_cli.proofs.Noting.{four_put}

@@ -1,4 +1,4 @@
-use Rattle.std.proofs.Common.{Global, map, string_bytes, ◌∙◌, sym, ap, not, if◌then◌else◌}
+use Rattle.std.proofs.Common.{Global, map, string_bytes, ◌∙◌, sym, ap}
 use Rattle.celt_cli.specs.Words.{decode_options, decode_by}
 use Rattle.celt_cli.proofs.Finding.{parse_none, parse_some, decode_is}
 use Rattle.celt_cli.proofs.words.decode_command.Goals as goal

@@ -1,5 +1,5 @@
 use Rattle.std.proofs.Common.{Global, map, string_bytes, ◌∙◌, sym, ap}
-use Rattle.celt_cli.specs.Words.{encode_options, encode_by, encode_with, bytes_in, frame_in, band_in}
+use Rattle.celt_cli.specs.Words.{encode_options, encode_by, bytes_in, frame_in, band_in, group_in}
 use Rattle.celt_cli.proofs.Finding.{parse_none, parse_some, encode_is}
 use Rattle.celt_cli.proofs.words.encode_command.Goals as goal
 
@@ -13,4 +13,5 @@ returns-clause-value c =
     let bytes = c.frame_bytes.ensures.value ∙ ap bytes_in (c.value.ensures p.0 p.2) in
     let frame = c.frame_samples.ensures.value ∙ ap frame_in (c.value-2.ensures p.0 p.2) in
     let band = c.bandwidth.ensures.value ∙ ap band_in (c.value-3.ensures p.0 p.2) in
-    c.encode_settings.ensures.value ∙ encode_is c.frame_bytes.result c.frame_samples.result c.bandwidth.result p.0 bytes frame band ∙ sym (ap encode_by p.1)
+    let group = c.group_frames.ensures.value ∙ ap group_in (c.value-4.ensures p.0 p.2) in
+    c.encode_settings.ensures.value ∙ encode_is c.frame_bytes.result c.frame_samples.result c.bandwidth.result c.group_frames.result p.0 bytes frame band group ∙ sym (ap encode_by p.1)

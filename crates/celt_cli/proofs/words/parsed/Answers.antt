@@ -1,4 +1,4 @@
-use Rattle.std.proofs.Common.{Global, map, string_bytes, ◌∙◌, sym}
+use Rattle.std.proofs.Common.{Global, map, string_bytes, ◌∙◌}
 use Rattle.clap.specs.Words.{app_of}
 use Rattle.celt_cli.proofs.Finding.{found_ok, found_none}
 use Rattle.celt_cli.proofs.words.parsed.Goals as goal

@@ -1,4 +1,4 @@
-use Rattle.std.proofs.Common.{Global, map, string_bytes, ◌∙◌, sym, ap, []}
+use Rattle.std.proofs.Common.{Global, map, string_bytes, sym, ap, []}
 use Rattle.celt_cli.specs.Words.{ranges_by}
 use Rattle.celt_cli.proofs.Finding.{parse_none, parse_some}
 use Rattle.celt_cli.proofs.words.ranges_command.Goals as goal
