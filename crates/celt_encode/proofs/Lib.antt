@@ -2,6 +2,7 @@ pub mod ChangeSteps
 pub mod ChoiceLemmas
 pub mod CodeSteps
 pub mod ListeningLemmas
+pub mod EncoderSteps
 pub mod MixSteps
 pub mod NearestSteps
 pub mod NumberSteps

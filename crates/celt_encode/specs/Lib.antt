@@ -2,6 +2,7 @@ pub mod Changes
 pub mod Choices
 pub mod Choosers
 pub mod Codes
+pub mod Encoders
 pub mod EnergiesWanted
 pub mod Frames
 pub mod Known

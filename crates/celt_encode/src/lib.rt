@@ -1,17 +1,22 @@
-//! The encoder of a frame (RFC 6716, section 5.3).
+//! The encoder of a frame (RFC 6716, section 5.3): from the analysis of a frame and what encoder and decoder share after the
+//! frame before to the frame's bytes. `Encoder::new` alone takes memory.
 #![tactic(auto)]
 
-pub mod answers;
-pub mod changes;
-pub mod choice;
-pub mod energies;
-pub mod frame;
-pub mod laws;
-pub mod leaves;
-pub mod listening;
-pub mod numbers;
-pub mod rooms;
-pub mod spreads;
-pub mod units;
-pub mod vectors;
-pub mod writing;
+mod answers;
+mod changes;
+mod choice;
+mod encoder;
+mod energies;
+mod frame;
+mod laws;
+mod leaves;
+mod listening;
+mod numbers;
+mod rooms;
+mod spreads;
+mod units;
+mod vectors;
+mod writing;
+
+pub use encoder::Encoder;
+pub use laws::{law_choice, law_code, law_kept, law_nearest};
