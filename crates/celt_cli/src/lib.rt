@@ -8,6 +8,8 @@ mod gen_tests;
 pub mod generator;
 #[cfg(test)]
 mod generator_tests;
+#[cfg(test)]
+mod hostile_tests;
 pub mod laws;
 #[cfg(test)]
 mod music_tests;

@@ -185,7 +185,7 @@ fn bytes_of(alloc: Global, text: &str) -> Result<Vec<u8>, AllocError> {
 }
 
 /// A sum that every byte and its place goes into.
-fn sum(bytes: &[u8]) -> u64 {
+pub fn sum(bytes: &[u8]) -> u64 {
     let mut sum = 0u64;
     for byte in bytes {
         sum = sum.wrapping_mul(1_000_003).wrapping_add(u64::from(*byte));
