@@ -101,6 +101,7 @@ impl Encoder {
         ensures kept { answers_in s.new ≡ kept self.old a.now (length room.old) }
         ensures symbols { AreOf self.old.kind (length room.old) s.new }
         ensures read { IsReading self.old.kind room.new (answers_in s.new) }
+        ensures kind { self.new.kind ≡ self.old.kind }
         ensures state { self.new ≡ after_frame self.old a.now (length room.old) }
         ensures shared { shared_in result ≡ self.new.shared }
         ensures shares { shared_in result ≡ share_by self.old.kind (length room.old) (answers_in s.new) self.old.shared }

@@ -62,3 +62,6 @@ returns-clause-shares c =
     let n : ℕ = length c.args.room.now in
     let are = subst (λ k. AreOf k n c.write-self-inside.new.out) c.hear.ensures.kind c.write-self-inside.ensures.are in
     c.share-self-inside.ensures.of n are ∙ ap (λ e. share_by e.kind n (answers_in c.write-self-inside.new.out) e.shared) c.self.view_is
+
+pub returns-clause-kind : goal.returns-clause-kind
+returns-clause-kind c = ap (λ e. e.kind) c.self.view_is
