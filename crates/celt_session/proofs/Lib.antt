@@ -22,3 +22,4 @@ pub mod WholeInput
 pub mod WholeReads
 pub mod WindowLemmas
 pub mod ZeroSamples
+pub mod EncodedSteps

@@ -7,6 +7,7 @@ mod choice;
 mod coding;
 mod decoding;
 mod encode;
+mod encoded_laws;
 mod encoding;
 mod encoding_laws;
 mod fed;
