@@ -1,8 +1,9 @@
 pub mod ChangeSteps
 pub mod ChoiceLemmas
 pub mod CodeSteps
-pub mod ListeningLemmas
 pub mod EncoderSteps
+pub mod ListeningLawLemmas
+pub mod ListeningLemmas
 pub mod MixSteps
 pub mod NearestSteps
 pub mod NumberSteps

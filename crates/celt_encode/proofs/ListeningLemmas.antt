@@ -155,7 +155,7 @@ pub record TrimSteps (r x : ℤ) (e : ℕ) : Type 0 where
   pub left : FitsSigned w64 (pos 5 -ℤ within_two (int_div r (pos 6144 *ℤ (x -ℤ pos 1))))
   pub value : int_div r (pos 6144 *ℤ (x -ℤ pos 1)) ≡ int_div r (pos (6144 * (e - 1)))
 
-within-size : (q : ℤ) → unsigned_abs (within_two q) ≤ 2
+pub within-size : (q : ℤ) → unsigned_abs (within_two q) ≤ 2
 within-size q = grind (arith, ints)
 
 pub trim_steps : (r x : ℤ) (e : ℕ) → pos e ≡ x → 2 ≤ e → e ≤ 21 → unsigned_abs r ≤ 2 ^ 26 → TrimSteps r x e

@@ -11,6 +11,7 @@ mod frame;
 mod laws;
 mod leaves;
 mod listening;
+mod listening_laws;
 mod numbers;
 mod rooms;
 mod spreads;
@@ -20,3 +21,4 @@ mod writing;
 
 pub use encoder::Encoder;
 pub use laws::{law_choice, law_code, law_kept, law_nearest};
+pub use listening_laws::{law_listening, law_unit_vectors};
