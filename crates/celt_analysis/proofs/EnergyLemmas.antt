@@ -1,6 +1,6 @@
 -- Energies of bands and their targets.
 use Rattle.std.proofs.Common.{◌≡◌, ℕ, zero, suc, ◌+◌, ◌*◌, ◌/◌, ◌%◌, ◌^◌, ◌<◌, ◌≤◌, refl, sym, subst, inl, inr, arith, ap, ◌∙◌, List, length, true, false, nat_lt, if◌then◌else◌}
-use Rattle.std.specs.Prelude.{ℤ, pos, ◌-ℤ◌, unsigned_abs, slice_index, slice_set, All}
+use Rattle.std.specs.Prelude.{Bool, int_lt, ◌&&◌, nat_eq, ℤ, pos, negsuc, ◌-ℤ◌, unsigned_abs, slice_index, slice_set, All}
 use Rattle.std.specs.Int.{int_max}
 use Rattle.std.proofs.lemmas.Bool.Decides.{nat_tests}
 use Rattle.std.proofs.lemmas.List.{length-set, get_or-set_same, get_or-set_other, get_or_default}
@@ -14,7 +14,7 @@ use Rattle.fixed_math.specs.Powers.{fraction, power, logarithm, IsLogarithm}
 use Rattle.fixed_math.specs.Root.{root, IsRoot}
 use Rattle.fixed_math.proofs.PowerLemmas.{logarithm-is, fraction_low}
 use Rattle.fixed_math.proofs.RootLemmas.{root-is, root_small}
-use Rattle.celt_analysis.specs.Energies.{floor, band_amplitude, target_of, row_target}
+use Rattle.celt_analysis.specs.Energies.{are_zero, floor, band_amplitude, height_of, target_of, row_target}
 use Rattle.celt_analysis.specs.Sums.{squared}
 
 pub square_within : (x : ℤ) → unsigned_abs x < 2 ^ 38 → squared x ≤ 2 ^ 76
@@ -88,3 +88,43 @@ row_whole end m xs row n l h = listed_from row 21 (row_target end m xs) h.count 
 
 pub row_sizes : (end m : ℕ) (xs row : List ℤ) (n : ℕ) → RowTo end m xs row n → All (λ t. unsigned_abs t < 2 ^ 15) row
 row_sizes end m xs row n h = λ k d l. subst (λ z. unsigned_abs z < 2 ^ 15) (sym (get_or_default row k d (pos 0) l)) (h.sizes k (omega (arith, l, h.count)))
+
+pub max_within : (x y : ℤ) (m : ℕ) → unsigned_abs x < m → unsigned_abs y < m → unsigned_abs (int_max x y) < m
+max_within x y m a b = either (int_lt y x)
+  where
+    either : (t : Bool) → unsigned_abs (if t then x else y) < m
+    either true = a
+    either false = b
+
+-- a height, and items that are 0
+pub height_is : (xs ys : List ℤ) (b : ℕ) → int_max (item xs b) (item ys b) ≡ height_of xs ys b
+unfolding height_of
+height_is xs ys b = refl
+
+pub zero_none : (xs : List ℤ) → are_zero 0 xs ≡ true
+unfolding are_zero
+zero_none xs = refl
+
+pub zero_next : (n : ℕ) (xs : List ℤ) → item xs n ≡ pos 0 → are_zero n xs ≡ true → are_zero (n + 1) xs ≡ true
+unfolding are_zero
+zero_next n xs e h = ap (λ k. are_zero k xs) (one_on n) ∙ ap (λ b. b && nat_eq (unsigned_abs (item xs n)) 0) h ∙ ap (λ z. nat_eq (unsigned_abs z) 0) e
+  where
+    one_on : (n : ℕ) → n + 1 ≡ suc n
+    one_on n = omega arith
+
+pub zero_not : (k n : ℕ) (xs : List ℤ) → n < k → (item xs n ≡ pos 0 → ⊥) → false ≡ are_zero k xs
+unfolding are_zero
+zero_not zero n xs l h = absurd (omega (arith, l))
+zero_not (suc k) n xs l h = elim (cases_eq n k) [
+  | inl e ↦ and_false (are_zero k xs) (nat_eq (unsigned_abs (item xs k)) 0) (nonzero (item xs k) (λ z. h (ap (item xs) e ∙ z)))
+  | inr ne ↦ ap (λ b. b && nat_eq (unsigned_abs (item xs k)) 0) (zero_not k n xs (omega (arith, l, ne)) h)
+]
+  where
+    nonzero : (z : ℤ) → (z ≡ pos 0 → ⊥) → nat_eq (unsigned_abs z) 0 ≡ false
+    nonzero (pos zero) f = absurd (f refl)
+    nonzero (pos (suc n)) f = grind (arith, nat_tests)
+    nonzero (negsuc n) f = grind (arith, nat_tests)
+
+    and_false : (a b : Bool) → b ≡ false → false ≡ a && b
+    and_false true b e = sym e
+    and_false false b e = refl

@@ -1,9 +1,11 @@
 pub mod BestLemmas
+pub mod ChannelLemmas
 pub mod EnergyLemmas
 pub mod EstimateLemmas
 pub mod FillLemmas
 pub mod KaratsubaLemmas
 pub mod LaneLemmas
+pub mod MeasureLemmas
 pub mod PitchLaws
 pub mod PitchLemmas
 pub mod PlaceLemmas

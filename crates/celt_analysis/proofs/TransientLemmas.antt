@@ -1,12 +1,13 @@
 -- Energies of blocks.
-use Rattle.std.proofs.Common.{◌≡◌, ℕ, suc, ◌+◌, ◌*◌, ◌^◌, ◌<◌, ◌≤◌, Bool, ◌||◌, nat_lt, refl, sym, subst, arith, ap, ◌∙◌}
-use Rattle.std.specs.Prelude.{ℤ, ◌*ℤ◌, unsigned_abs, FitsSigned}
+use Rattle.std.proofs.Common.{◌≡◌, ℕ, suc, ◌+◌, ◌*◌, ◌^◌, ◌<◌, ◌≤◌, Bool, true, false, ◌||◌, nat_lt, refl, sym, subst, arith, ap, ◌∙◌, List}
+use Rattle.std.proofs.lemmas.Bool.Decides.{nat_tests}
+use Rattle.std.specs.Prelude.{◌&&◌, ℤ, ◌*ℤ◌, unsigned_abs, FitsSigned}
 use Rattle.std.specs.Int.{int_shr, w64}
 use Rattle.std.proofs.lemmas.Int.{fits_signed_from_abs, unsigned_abs-mul}
 use Rattle.std.proofs.lemmas.Nat.{mul-le}
 use Rattle.fixed_math.proofs.RoundingLemmas.{shr_scaled}
 use Rattle.celt_analysis.specs.Sums.{sum_from, squared, energy}
-use Rattle.celt_analysis.specs.Transients.{rises_within}
+use Rattle.celt_analysis.specs.Transients.{block_energy, energies_in, is_transient, rises_within}
 
 -- ---- the code's steps for the square of a value in whole samples
 
@@ -47,3 +48,20 @@ found_next e n found before next after hf hb hn ha =
   where
     one_on : (n : ℕ) → n + 1 ≡ suc n
     one_on n = omega arith
+
+-- one block alone is no transient; more are where the energy rises
+pub transient_none : (lm : ℕ) (e : ℕ → ℕ) → lm ≡ 0 → false ≡ is_transient lm e
+unfolding is_transient
+transient_none lm e z = ap (λ k. nat_lt 0 k && rises_within e (2 ^ k)) (sym z)
+
+pub transient_some : (lm n : ℕ) (e : ℕ → ℕ) (r : Bool) → (lm ≡ 0 → ⊥) → n ≡ 2 ^ lm → r ≡ rises_within e n → r ≡ is_transient lm e
+unfolding is_transient
+transient_some lm n e r z q h =
+    let more : nat_lt 0 lm ≡ true = grind (arith, nat_tests, z) in
+    rw more (h ∙ ap (rises_within e) q)
+
+-- in mono the second list is not read
+pub energies_same : (stereo : Bool) (xs ys us vs : List ℤ) → xs ≡ us → (stereo ≡ true → ys ≡ vs) → energies_in stereo xs ys ≡ energies_in stereo us vs
+unfolding energies_in
+energies_same true xs ys us vs e h = ap (λ zs. energies_in true zs ys) e ∙ ap (energies_in true us) (h refl)
+energies_same false xs ys us vs e h = ap (λ zs. energies_in false zs ys) e ∙ (λ k b. block_energy us b)

@@ -5,7 +5,7 @@ use Rattle.celt_base.specs.declared.kind.Kind.{Kind}
 use Rattle.celt_base.specs.declared.state.Setting.{Setting}
 use Rattle.celt_tables.specs.Tables.{edge_of}
 use Rattle.celt_analysis.specs.Energies.{floor, heights_of, is_silent, targets_of}
-use Rattle.celt_analysis.specs.Signals.{blocks_of, frame_size, channel_in, off, setting_of, values_in}
+use Rattle.celt_analysis.specs.Signals.{blocks_of, channel_values, frame_size, is_stereo, off, setting_of}
 use Rattle.celt_analysis.specs.Spectra.{spectrum}
 use Rattle.celt_analysis.specs.Transients.{energies_in, is_transient}
 
@@ -35,10 +35,6 @@ blank = record {
   heights = replicate 21 floor;
 }
 
--- a frame has two channels
-abbrev pub is_stereo : Kind → Bool
-is_stereo kind = nat_eq kind.channels 2
-
 -- of a frame with these spectra
 unfoldable pub found : Kind → Setting → Bool → List ℤ → List ℤ → Analysis
 found kind setting transient left right = record {
@@ -67,7 +63,7 @@ analysed kind setting values =
 -- of a frame with this window
 unfoldable pub analysis_of : Kind → List Setting → List ℤ → Analysis
 analysis_of kind settings window =
-    analysed kind (setting_of settings 2) (λ c. values_in (frame_size kind) settings (channel_in kind.channels window c))
+    analysed kind (setting_of settings 2) (channel_values kind settings window)
 
 -- ---- what an analysis gives
 

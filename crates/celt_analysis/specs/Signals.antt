@@ -1,6 +1,6 @@
 -- The signal that an encoder transforms: pre-emphasis and the pre-filter, the inverses of the decoder's last steps (RFC
 -- 6716, 4.3.7.1 and 4.3.7.2). One channel's samples are a function of their place. Values are in units of 2^-12 of a sample.
-use Rattle.std.specs.Prelude.{ℕ, zero, suc, ◌+◌, ◌-◌, ◌*◌, ◌^◌, nat_lt, if◌then◌else◌, ℤ, pos, ◌-ℤ◌, ◌*ℤ◌, List, slice_index_or}
+use Rattle.std.specs.Prelude.{ℕ, zero, suc, ◌+◌, ◌-◌, ◌*◌, ◌^◌, nat_eq, nat_lt, Bool, if◌then◌else◌, ℤ, pos, ◌-ℤ◌, ◌*ℤ◌, List, slice_index_or}
 use Rattle.std.proofs.Common.{arith}
 use Rattle.celt_base.specs.declared.kind.Kind.{Kind}
 use Rattle.celt_base.specs.declared.state.Setting.{Setting}
@@ -29,6 +29,10 @@ frame_size kind = 120 * blocks_of kind
 abbrev pub window_size : Kind → ℕ
 window_size kind = kind.channels * (1145 + frame_size kind)
 
+-- a frame has two channels
+abbrev pub is_stereo : Kind → Bool
+is_stereo kind = nat_eq kind.channels 2
+
 -- the samples of channel c
 abbrev pub channel_in : ℕ → List ℤ → ℕ → ℕ → ℤ
 channel_in channels window c n = item window (channels * n + c)
@@ -56,3 +60,7 @@ value_at n settings p t =
 -- from the samples x of the window
 abbrev pub values_in : ℕ → List Setting → (ℕ → ℤ) → List ℤ
 values_in n settings x = listed (n + 120) (value_at n settings (emphasized x))
+
+-- of channel c of a window
+abbrev pub channel_values : Kind → List Setting → List ℤ → ℕ → List ℤ
+channel_values kind settings window c = values_in (frame_size kind) settings (channel_in kind.channels window c)

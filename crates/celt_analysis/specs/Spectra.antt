@@ -1,5 +1,5 @@
 -- The spectrum of a frame (RFC 6716, 4.3.7): one MDCT, or in a transient one of each block of 120 samples.
-use Rattle.std.specs.Prelude.{◌≡◌, ◌≢◌, ℕ, ◌+◌, ◌*◌, ◌/◌, ◌%◌, ◌^◌, ◌<◌, ◌≤◌, Bool, if◌then◌else◌, ℤ, unsigned_abs, List, length}
+use Rattle.std.specs.Prelude.{◌≡◌, ◌≢◌, ℕ, ◌+◌, ◌*◌, ◌/◌, ◌%◌, ◌<◌, Bool, if◌then◌else◌, ℤ, List, length}
 use Rattle.fixed_math.specs.Items.{item, listed}
 use Rattle.mdct_fixed.specs.Mdct.{forward_of}
 
@@ -13,12 +13,6 @@ spectrum m transient vs =
     if transient
     then listed (120 * m) (λ p. item (forward_of 120 (block vs (p % m))) (p / m))
     else forward_of (120 * m) vs
-
--- a room for 960 items, of which the first so many are a spectrum; each is below 2^38 in size
-pub record IsRoom (count : ℕ) (items : List ℤ) : Type 0 where
-  pub room : length items ≡ 960
-  pub within : count ≤ 960
-  pub sizes : (p : ℕ) → unsigned_abs (item items p) < 2 ^ 38
 
 -- the first n items of block b of m stand at the block's places, and all other items are as they were
 pub record IsSpread (xs : List ℤ) (m b n : ℕ) (old new : List ℤ) : Type 0 where

@@ -1,13 +1,16 @@
 //! What is found in a frame, and what an encoder reads of it.
 ghost use Rattle.std.specs.Prelude.{◌≡◌, replicate, length, All};
-ghost use Rattle.celt_analysis.specs.Analyses.{AreTargets};
+ghost use Rattle.celt_analysis.specs.Analyses.{AreTargets, analysis_of};
 ghost use Rattle.celt_analysis.specs.Energies.{floor};
+ghost use Rattle.celt_analysis.specs.Signals.{window_size};
 
+use crate::channels::Channels;
 use crate::energies::FLOOR;
-use crate::spectra::Spectrum;
+use crate::measures::{Measures, measure};
 use celt_base::kind::Kind;
 use celt_base::state::Setting;
 use celt_base::status::OutOfMemory;
+use fixed_math::{Exp, Trig};
 use std::alloc::Global;
 use std::marker::Model;
 
@@ -33,13 +36,10 @@ fn least_heights() -> [i64; 21]
 #[derive(Drop)]
 pub struct Analysis {
     kind: Option<Kind>,
-    silent: bool,
     transient: bool,
     setting: Setting,
-    left: Spectrum,
-    right: Spectrum,
-    targets: [[i64; 21]; 2],
-    heights: [i64; 21],
+    measures: Measures,
+    channels: Channels,
 }
 
 impl Model for Analysis {
@@ -49,16 +49,16 @@ impl Model for Analysis {
 
     ghost view = { λ a. record {
       kind = a.kind;
-      silent = a.silent;
+      silent = a.measures.silent;
       transient = a.transient;
       setting = a.setting;
-      left = a.left;
-      right = a.right;
-      targets = a.targets;
-      heights = a.heights;
+      left = a.channels.left.spectrum;
+      right = a.channels.right.spectrum;
+      targets = a.measures.targets;
+      heights = a.measures.heights;
     } };
 
-    ghost invariant = { λ a. IsAnalysis a.kind a.left a.right a.targets a.heights };
+    ghost invariant = { λ a. IsAnalysis a.kind a.channels.left.spectrum a.channels.right.spectrum a.measures.targets a.measures.heights };
 }
 
 impl Analysis {
@@ -69,21 +69,19 @@ impl Analysis {
     pub fn new(alloc: Global) -> Result<Analysis, OutOfMemory>
         ensures { IfOk result (λ a. a ≡ blank) }
     {
-        let Ok(left) = Spectrum::new(alloc) else {
-            return Err(OutOfMemory);
-        };
-        let Ok(right) = Spectrum::new(alloc) else {
+        let Ok(channels) = Channels::new(alloc) else {
             return Err(OutOfMemory);
         };
         Ok(Analysis {
             kind: None,
-            silent: false,
             transient: false,
             setting: Setting::off(),
-            left,
-            right,
-            targets: least_targets(),
-            heights: least_heights(),
+            measures: Measures {
+                silent: false,
+                targets: least_targets(),
+                heights: least_heights(),
+            },
+            channels,
         })
     }
 
@@ -98,7 +96,7 @@ impl Analysis {
     pub fn silent(&self) -> bool
         ensures { result ≡ self.now.silent }
     {
-        self.silent
+        self.measures.silent
     }
 
     /// Whether the frame has a transform for each block of 120 samples.
@@ -124,9 +122,9 @@ impl Analysis {
         ensures sizes { All (λ x. unsigned_abs x < 2 ^ 38) result.now }
     {
         if channel == 0 {
-            self.left.items()
+            self.channels.left()
         } else {
-            self.right.items()
+            self.channels.right()
         }
     }
 
@@ -138,7 +136,7 @@ impl Analysis {
         ensures value { result ≡ target_in self.now channel band }
         ensures size { unsigned_abs result < 2 ^ 15 }
     {
-        self.targets[channel as usize][band as usize]
+        self.measures.targets[channel as usize][band as usize]
     }
 
     /// The greater of the targets of a band in all channels.
@@ -147,6 +145,26 @@ impl Analysis {
         ensures value { result ≡ height_in self.now band }
         ensures size { unsigned_abs result < 2 ^ 15 }
     {
-        self.heights[band as usize]
+        self.measures.heights[band as usize]
     }
+}
+
+/// Finds what is in a frame of this kind. `window` has 1145 samples of each channel before those of the frame, channels in
+/// turn; the settings of the post-filter are those of the two frames before and of the frame.
+pub fn analyse(
+    window: &[i16],
+    kind: Kind,
+    settings: &[Setting; 3],
+    trig: &Trig,
+    exp: &Exp,
+    out: &mut Analysis,
+)
+    requires { length window.now ≡ window_size kind }
+    ensures { out.new ≡ analysis_of kind settings.now window.now }
+{
+    let transient = out.channels.analyse(window, kind, settings, trig);
+    out.measures = measure(out.channels.left(), out.channels.right(), kind, exp);
+    out.kind = Some(kind);
+    out.transient = transient;
+    out.setting = settings[2];
 }

@@ -5,7 +5,7 @@ ghost use Rattle.fixed_math.specs.Items.{item, listed};
 ghost use Rattle.fixed_math.specs.Powers.{logarithm};
 ghost use Rattle.fixed_math.specs.Root.{root};
 ghost use Rattle.celt_analysis.specs.Sums.{squared, energy};
-ghost use Rattle.celt_analysis.specs.Energies.{band_amplitude, target_of, row_target};
+ghost use Rattle.celt_analysis.specs.Energies.{are_zero, band_amplitude, height_of, target_of, row_target};
 
 use celt_tables::energies::MEANS;
 use celt_tables::{edge, width};
@@ -113,4 +113,41 @@ pub fn targets(spectrum: &[i64], blocks: usize, end: usize, exp: &Exp) -> [i64; 
         row[band] = band_target(spectrum, blocks, band, exp);
     }
     row
+}
+
+// The greater of the targets of each band.
+fn greater(left: &[i64; 21], right: &[i64; 21]) -> [i64; 21]
+    requires left { All (λ t. unsigned_abs t < 2 ^ 15) left.now }
+    requires right { All (λ t. unsigned_abs t < 2 ^ 15) right.now }
+    ensures value { result ≡ listed 21 (height_of left.now right.now) }
+    ensures sizes { All (λ t. unsigned_abs t < 2 ^ 15) result }
+{
+    let mut row = [FLOOR; 21];
+    for b in 0..21usize {
+        row[b] = left[b].max(right[b]);
+    }
+    row
+}
+
+/// The heights of the bands. In mono `right` is not read.
+pub fn heights(left: &[i64; 21], right: &[i64; 21], stereo: bool) -> [i64; 21]
+    requires left { All (λ t. unsigned_abs t < 2 ^ 15) left.now }
+    requires right { All (λ t. unsigned_abs t < 2 ^ 15) right.now }
+    ensures value { result ≡ (if stereo then listed 21 (height_of left.now right.now) else left.now) }
+    ensures sizes { All (λ t. unsigned_abs t < 2 ^ 15) result }
+{
+    if stereo { greater(left, right) } else { *left }
+}
+
+/// Whether the first `count` items are 0.
+pub fn is_zero(spectrum: &[i64], count: usize) -> bool
+    requires { count ≤ length spectrum.now }
+    ensures { result ≡ are_zero count spectrum.now }
+{
+    for i in 0..count {
+        if spectrum[i] != 0 {
+            return false;
+        }
+    }
+    true
 }

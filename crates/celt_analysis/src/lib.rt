@@ -3,11 +3,13 @@
 #![tactic(auto)]
 
 mod analysis;
+mod channels;
 mod downmix;
 mod emphasis;
 mod energies;
 mod estimate;
 mod karatsuba;
+mod measures;
 mod pitch_laws;
 #[cfg(test)]
 mod pitch_tests;
@@ -16,14 +18,13 @@ mod prefilter;
 mod rooms;
 mod search;
 mod slide;
-mod spectra;
 mod sums;
 #[cfg(test)]
 mod tests;
 mod transforms;
 mod transients;
 
-pub use analysis::Analysis;
+pub use analysis::{Analysis, analyse};
 pub use pitch_laws::{law_best_lag, law_pitch};
 pub use pitches::pitch;
 pub use slide::Slide;

@@ -1,6 +1,7 @@
 //! Room for the values of a frame, on their way to its spectrum.
 ghost use Rattle.std.specs.Prelude.{◌≡◌, ◌+◌, ◌*◌, ◌^◌, ◌<◌, ◌≤◌, ℕ, pos, nat_eq, unsigned_abs, length, take, All, IfOk};
 ghost use Rattle.fixed_math.specs.Items.{item, listed};
+ghost use Rattle.mdct_fixed.specs.Mdct.{IsSize};
 ghost use Rattle.celt_analysis.specs.Signals.{blocks_of, channel_in, emphasized, frame_size, values_in, window_size};
 
 use crate::emphasis::{emphasize_mono, emphasize_stereo};
@@ -26,6 +27,7 @@ pub fn blocks(kind: Kind) -> usize
     ensures value { result ≡ blocks_of kind }
     ensures some { 1 ≤ result }
     ensures few { result ≤ 8 }
+    ensures size { IsSize (120 * result) }
 {
     match kind.lm {
         0 => 1,

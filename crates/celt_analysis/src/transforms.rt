@@ -1,5 +1,5 @@
 //! The spectrum of a frame (RFC 6716, section 4.3.7): one transform, or in a transient one of each block of 120 samples.
-ghost use Rattle.std.specs.Prelude.{◌≡◌, ◌+◌, ◌*◌, ◌^◌, ◌<◌, ◌≤◌, true, unsigned_abs, length, All};
+ghost use Rattle.std.specs.Prelude.{◌≡◌, ◌+◌, ◌*◌, ◌^◌, ◌<◌, ◌≤◌, true, unsigned_abs, length, take, All};
 ghost use Rattle.mdct_fixed.specs.Mdct.{IsSize, forward_of};
 ghost use Rattle.celt_analysis.specs.Spectra.{block, spectrum, IsSpread};
 
@@ -107,4 +107,27 @@ pub fn transform(values: &[i64], blocks: Blocks, trig: &Trig, room: &mut [i64], 
         return transform_blocks(values, blocks.count, trig, room, out);
     }
     transform_frame(values, trig, room, out);
+}
+
+/// The same, first in `items`, of the first values of a list.
+pub fn fill_spectrum(
+    values: &[i64],
+    blocks: Blocks,
+    trig: &Trig,
+    room: &mut [i64],
+    items: &mut [i64],
+)
+    requires size { IsSize (120 * blocks.count) }
+    requires values { 120 * blocks.count + 120 ≤ length values.now }
+    requires sizes { All (λ v. unsigned_abs v < 2 ^ 29) values.now }
+    requires room { length room.old ≡ 960 }
+    requires items { 120 * blocks.count ≤ length items.old }
+    requires kept { All (λ x. unsigned_abs x < 2 ^ 38) items.old }
+    ensures value { take (120 * blocks.count) items.new ≡ spectrum blocks.count blocks.transient (take (120 * blocks.count + 120) values.now) }
+    ensures sizes { All (λ x. unsigned_abs x < 2 ^ 38) items.new }
+{
+    let n = BLOCK * blocks.count;
+    let (values, _) = values.split_at(n + BLOCK);
+    let (out, _) = items.split_at_mut(n);
+    transform(values, blocks, trig, room, out);
 }

@@ -7,9 +7,9 @@ use Rattle.celt_analysis.proofs.analysis.Analysis.new.Goals as goal
 pub invariant_of-result : goal.invariant_of-result
 unfolding spectrum_size
 invariant_of-result c =
-    let l : [] ≡ c.in-Ok.left = sym c.in-Ok.ensures in
-    let r : [] ≡ c.in-Ok-new.right = sym c.in-Ok-new.ensures in
-    subst (λ xs. IsAnalysis None xs c.in-Ok-new.right c.least_targets.result c.least_heights.result) l
+    let l : [] ≡ c.in-Ok.channels.left.spectrum = sym c.in-Ok.ensures.left in
+    let r : [] ≡ c.in-Ok.channels.right.spectrum = sym c.in-Ok.ensures.right in
+    subst (λ xs. IsAnalysis None xs c.in-Ok.channels.right.spectrum c.least_targets.result c.least_heights.result) l
     (subst (λ ys. IsAnalysis None [] ys c.least_targets.result c.least_heights.result) r (record {
       left_size = refl;
       right_size = refl;
@@ -24,8 +24,8 @@ invariant_of-result c =
 pub returns : goal.returns
 unfolding blank
 returns c =
-    let l : c.in-Ok.left ≡ [] = c.in-Ok.ensures in
-    let r : c.in-Ok-new.right ≡ [] = c.in-Ok-new.ensures in
+    let l : c.in-Ok.channels.left.spectrum ≡ [] = c.in-Ok.ensures.left in
+    let r : c.in-Ok.channels.right.spectrum ≡ [] = c.in-Ok.ensures.right in
     let s = off_is c.off.result c.off.ensures in
     λ k. record {
       kind = None;
