@@ -7,7 +7,7 @@ use Rattle.fixed_math.specs.Items.{item}
 use Rattle.celt_analysis.specs.Analyses.{Analysis, analysis_of}
 use Rattle.celt_analysis.specs.Pitch.{downmix, best_candidate, gain_of}
 use Rattle.celt_analysis.specs.Signals.{frame_size}
-use Rattle.celt_encode.specs.Encoders.{EncoderState, encoded, after_frame}
+use Rattle.celt_encode.specs.Encoders.{EncoderState, outset_by, encoded, after_frame}
 use Rattle.celt_synth.specs.Shared.{SharedState, shared_of}
 use Rattle.celt_synth.specs.States.{start, off}
 use Rattle.celt_session.specs.FrameFunctions.{FrameFunction}
@@ -65,7 +65,7 @@ bytes_length zero n = refl
 bytes_length (suc len) n = ap suc (bytes_length len (n % 256 ^ len))
 
 pub frame_length : (s : Footing) (kind : Kind) (bytes : ℕ) (window : List ℤ) → length (frame_by s kind bytes window) ≡ bytes
-unfolding frame_by encoded frame_of code_of
+unfolding frame_by encoded frame_of code_of outset_by
 frame_length s kind bytes window = bytes_length bytes _
 
 -- The encoded frames, as a function of a window.
