@@ -1,4 +1,5 @@
 pub mod Analyses
+pub mod Batches
 pub mod Channels
 pub mod Energies
 pub mod Pitch

@@ -3,6 +3,7 @@
 #![tactic(auto)]
 
 mod analysis;
+mod batch;
 mod channels;
 mod downmix;
 mod emphasis;
@@ -25,6 +26,7 @@ mod transforms;
 mod transients;
 
 pub use analysis::{Analysis, analyse};
+pub use batch::{WindowSlot, analyse_batch, pitch_batch};
 pub use pitch_laws::{law_best_lag, law_pitch};
 pub use pitches::pitch;
 pub use slide::Slide;
