@@ -18,15 +18,15 @@ pub record NearestSteps (z n : ℤ) : Type 0 where
   pub divisor : FitsSigned w64 (pos 2 *ℤ n)
   pub quotient : FitsSigned w64 (nearest z n)
 
-pub nearest_steps : (z n : ℤ) → unsigned_abs z ≤ 2 ^ 54 → pos 1 ≤ℤ n → unsigned_abs n ≤ 2 ^ 39 → NearestSteps z n
+pub nearest_steps : (z n : ℤ) → unsigned_abs z ≤ 2 ^ 57 → pos 1 ≤ℤ n → unsigned_abs n ≤ 2 ^ 39 → NearestSteps z n
 nearest_steps z n h p q =
-    let a : unsigned_abs (pos 2 *ℤ z +ℤ n) ≤ 2 ^ 56 = omega (arith, ints) in
+    let a : unsigned_abs (pos 2 *ℤ z +ℤ n) ≤ 2 ^ 59 = omega (arith, ints) in
     let b : pos 0 ≤ℤ (pos 2 *ℤ n) = omega (arith, ints) in
     record {
       twice = fits_signed_from_abs w64 (pos 2 *ℤ z) (omega (arith, ints));
       sum = fits_signed_from_abs w64 (pos 2 *ℤ z +ℤ n) (omega arith);
       divisor = fits_signed_from_abs w64 (pos 2 *ℤ n) (omega (arith, ints));
-      quotient = fits_signed_from_abs w64 (nearest z n) (omega (arith, quotient_small (pos 2 *ℤ z +ℤ n) (pos 2 *ℤ n) (2 ^ 56) a b));
+      quotient = fits_signed_from_abs w64 (nearest z n) (omega (arith, quotient_small (pos 2 *ℤ z +ℤ n) (pos 2 *ℤ n) (2 ^ 59) a b));
     }
 
 pub sixteen : (z : ℤ) → negsuc 32767 ≤ℤ z → z ≤ℤ pos 32767 → FitsSigned w16 z

@@ -8,9 +8,7 @@ use Rattle.std.proofs.lemmas.List.{get_or_append_left}
 use Rattle.fixed_math.specs.Items.{item}
 use Rattle.fixed_math.proofs.ItemLemmas.{listed_from}
 use Rattle.rate_change.specs.Rates.{is_ratio, outputs_of, AreReady}
-use Rattle.rate_change.specs.Resampling.{between, weight, weighted, divisor, saturated, nearest, sum_around, in_window, input_at, output_at, resampled, IsWindow}
-use Rattle.rate_change.specs.Tables.{IsRow}
-use Rattle.rate_change.specs.declared.row.Row.{Row}
+use Rattle.rate_change.specs.Resampling.{between, weight, divisor, saturated, nearest, sum_around, in_window, input_at, output_at, resampled, IsWindow}
 use Rattle.rate_change.proofs.SumLemmas.{same_sum, window_place}
 
 pub between_whole : (up f : ℕ) (s : ℤ → ℤ) → f ≡ 0 → between up f s ≡ s (pos 0)
@@ -23,12 +21,10 @@ unfolding between
 between_part up zero s n = absurd (n refl)
 between_part up (suc f) s n = refl
 
--- what a row and a product come to
-pub value_from : (up f : ℕ) (row : Row) (window : List ℤ) (p v : ℤ) → (f ≡ 0 → ⊥) → IsRow up f row → p ≡ sum_around (weighted row.weights window) → v ≡ saturated (nearest p row.divisor) → v ≡ between up f (in_window window)
-value_from up f row window p v n r e g =
-    let same : (t : ℕ) → t < 32 → weighted row.weights window (pos t -ℤ pos 15) ≡ weight up f (pos t -ℤ pos 15) *ℤ in_window window (pos t -ℤ pos 15) = λ t l. ap (λ z. z *ℤ in_window window (pos t -ℤ pos 15)) (window_place row.weights t ∙ r.weights_are t l) in
-    let s : sum_around (weighted row.weights window) ≡ sum_around (λ j. weight up f j *ℤ in_window window j) = same_sum (weighted row.weights window) (λ j. weight up f j *ℤ in_window window j) 32 same in
-    g ∙ ap (λ z. saturated (nearest z row.divisor)) (e ∙ s) ∙ ap (λ z. saturated (nearest (sum_around (λ j. weight up f j *ℤ in_window window j)) z)) r.divisor_is ∙ sym (between_part up f (in_window window) n)
+-- what a product over a divisor comes to
+pub value_from : (up f : ℕ) (window : List ℤ) (p n v : ℤ) → (f ≡ 0 → ⊥) → n ≡ divisor up f → p ≡ sum_around (λ j. weight up f j *ℤ in_window window j) → v ≡ saturated (nearest p n) → v ≡ between up f (in_window window)
+value_from up f window p n v some d e g =
+    g ∙ ap (λ z. saturated (nearest z n)) e ∙ ap (λ z. saturated (nearest (sum_around (λ j. weight up f j *ℤ in_window window j)) z)) d ∙ sym (between_part up f (in_window window) some)
 
 -- signals that agree around a sample have one output there
 pub same_between : (up f : ℕ) (s r : ℤ → ℤ) → ((t : ℕ) → t < 32 → s (pos t -ℤ pos 15) ≡ r (pos t -ℤ pos 15)) → between up f s ≡ between up f r

@@ -1,7 +1,8 @@
 //! Laws of the definitions alone. No body does anything.
-ghost use Rattle.std.specs.Prelude.{◌≡◌, ℕ, ℤ, ◌*◌, ◌/◌, ◌<◌, List, ◌++◌, length, IsTrue};
+ghost use Rattle.std.specs.Prelude.{◌≡◌, ℕ, ℤ, ◌*◌, ◌/◌, ◌<◌, List, ◌++◌, length, IsTrue, pos, ◌≤ℤ◌, FitsSigned};
+ghost use Rattle.std.specs.Int.{w16};
 ghost use Rattle.rate_change.specs.Rates.{is_rate, is_ratio, IsLowest, outputs_of, AreReady};
-ghost use Rattle.rate_change.specs.Resampling.{output_at, resampled};
+ghost use Rattle.rate_change.specs.Resampling.{between, sum_around, weight, output_at, resampled};
 
 /// A rate has one ratio in lowest terms. The ratios that weights are made for are those of the six rates.
 pub fn law_ratio()
@@ -25,4 +26,9 @@ pub fn law_ready()
 /// At 48000 Hz the outputs are the input.
 pub fn law_whole()
     ensures { (input : List ℤ) → resampled 1 1 input ≡ input }
+{}
+
+/// Where the sum of the weights is above 0, a steady input keeps its level.
+pub fn law_steady()
+    ensures { (up f : ℕ) (level : ℤ) → pos 1 ≤ℤ sum_around (weight up f) → FitsSigned w16 level → between up f (λ j. level) ≡ level }
 {}

@@ -6,6 +6,7 @@
 #![tactic(auto)]
 
 mod counts;
+mod digits;
 mod laws;
 mod ratio;
 mod row;
@@ -16,6 +17,6 @@ mod tests;
 mod weights;
 
 pub use counts::{outputs, ready};
-pub use laws::{law_outputs, law_ratio, law_ready, law_whole};
+pub use laws::{law_outputs, law_ratio, law_ready, law_steady, law_whole};
 pub use ratio::Ratio;
 pub use table::Weights;

@@ -4,7 +4,7 @@ ghost use Rattle.rate_change.specs.Tables.{AreRows};
 
 use crate::ratio::Ratio;
 use crate::row::Row;
-use crate::sums::{nearest_sample, product, put_rows};
+use crate::sums::{nearest_sample, product, put_rows, rows_room};
 use celt_base::status::OutOfMemory;
 use fixed_math::Trig;
 use std::alloc::Global;
@@ -28,9 +28,7 @@ impl Weights {
     pub fn new(alloc: Global, r: Ratio, trig: &Trig) -> Result<Weights, OutOfMemory>
         ensures { IfOk result (λ weights. parts_of weights ≡ r.up) }
     {
-        let Ok(mut rows) = Vec::with_capacity(alloc, (r.up - 1) as usize) else {
-            return Err(OutOfMemory);
-        };
+        let mut rows = rows_room(alloc, r.up)?;
         put_rows(trig, r.up, &mut rows);
         Ok(Weights { up: r.up, rows })
     }
@@ -47,6 +45,6 @@ impl Weights {
             return window[15];
         }
         let row = &self.rows[(f - 1) as usize];
-        nearest_sample(product(&row.weights, window), row.divisor)
+        nearest_sample(product(row, window), row.divisor)
     }
 }

@@ -1,60 +1,36 @@
-use Rattle.std.proofs.Common.{◌≡◌, ℕ, ◌≤◌, ◌^◌, arith, rules, refl, ap, ◌∙◌, to_z}
-use Rattle.std.specs.Prelude.{ℤ, ◌+ℤ◌, ◌*ℤ◌, unsigned_abs, FitsSigned}
-use Rattle.std.specs.Int.{w16, w64}
-use Rattle.std.proofs.lemmas.Int.{to_z-of_z, fits_signed_from_abs}
-use Rattle.fixed_math.specs.Items.{item}
-use Rattle.fixed_math.proofs.ItemLemmas.{item_within}
-use Rattle.rate_change.specs.Resampling.{first_sum}
-use Rattle.rate_change.proofs.SumLemmas.{product_step, product_steps}
-use Rattle.rate_change.proofs.NearestLemmas.{sixteen_size}
+use Rattle.std.proofs.Common.{rules}
+use Rattle.std.specs.Prelude.{FitsSigned}
+use Rattle.std.specs.Int.{w64}
+use Rattle.std.proofs.lemmas.Int.{to_z-of_z}
+use Rattle.rate_change.proofs.SumLemmas.{join_steps, product_from}
 use Rattle.rate_change.proofs.sums.product.Goals as goal
 
-pub loop-t-init : goal.loop-t-init
-unfolding first_sum
-loop-t-init c = (refl, omega arith)
+pub returns-clause-value : goal.returns-clause-value
+returns-clause-value c = λ up f r.
+    let h = c.digit_sum-high in
+    let m = c.digit_sum-middle in
+    let l = c.digit_sum-low in
+    let fh : FitsSigned w64 h.result = search rules in
+    let fm : FitsSigned w64 m.result = search rules in
+    let fl : FitsSigned w64 l.result = search rules in
+    let s = join_steps h.result m.result l.result h.ensures.size m.ensures.size l.ensures.size in
+    let a = s.first in
+    let b = s.second in
+    let d = s.third in
+    let e = s.fourth in
+    simp to_z-of_z (product_from up f c.args.row.now c.args.window.now h.result m.result l.result r h.ensures.value m.ensures.value l.ensures.value)
 
-pub overflow_mul-sum : goal.overflow_mul-sum
-overflow_mul-sum c =
-    let t : ℕ = c.loop-t.t in
-    let w : ℤ = item c.args.weights.now t in
-    let x : ℤ = item c.args.window.now t in
-    let hw : unsigned_abs w ≤ 2 ^ 34 = item_within c.args.weights.now (2 ^ 34) t c.requires in
-    let fw : FitsSigned w64 w = fits_signed_from_abs w64 w (omega arith) in
-    let fx : FitsSigned w16 x = search rules in
-    let fr : FitsSigned w64 c.from.result = search rules in
-    let e : c.from.result ≡ x = simp to_z-of_z at c.from.ensures in
-    let hx : unsigned_abs c.from.result ≤ 2 ^ 15 = rw e (sixteen_size x fx) in
-    let s = product_steps (to_z w64 c.loop-t.sum-bits) w c.from.result t c.loop-t-test.true c.loop-t.invariant.1 hw hx in
-    let p = s.product in
-    simp to_z-of_z p
-
-pub overflow_add-sum : goal.overflow_add-sum
-overflow_add-sum c =
-    let t : ℕ = c.loop-t.t in
-    let w : ℤ = item c.args.weights.now t in
-    let x : ℤ = item c.args.window.now t in
-    let hw : unsigned_abs w ≤ 2 ^ 34 = item_within c.args.weights.now (2 ^ 34) t c.requires in
-    let fw : FitsSigned w64 w = fits_signed_from_abs w64 w (omega arith) in
-    let fx : FitsSigned w16 x = search rules in
-    let fr : FitsSigned w64 c.from.result = search rules in
-    let e : c.from.result ≡ x = simp to_z-of_z at c.from.ensures in
-    let hx : unsigned_abs c.from.result ≤ 2 ^ 15 = rw e (sixteen_size x fx) in
-    let s = product_steps (to_z w64 c.loop-t.sum-bits) w c.from.result t c.loop-t-test.true c.loop-t.invariant.1 hw hx in
-    let p = s.product in
-    simp to_z-of_z s.sum
-
-pub loop-t-preserved : goal.loop-t-preserved
-loop-t-preserved c =
-    let t : ℕ = c.loop-t.t in
-    let w : ℤ = item c.args.weights.now t in
-    let x : ℤ = item c.args.window.now t in
-    let hw : unsigned_abs w ≤ 2 ^ 34 = item_within c.args.weights.now (2 ^ 34) t c.requires in
-    let fw : FitsSigned w64 w = fits_signed_from_abs w64 w (omega arith) in
-    let fx : FitsSigned w16 x = search rules in
-    let fr : FitsSigned w64 c.from.result = search rules in
-    let e : c.from.result ≡ x = simp to_z-of_z at c.from.ensures in
-    let hx : unsigned_abs c.from.result ≤ 2 ^ 15 = rw e (sixteen_size x fx) in
-    let s = product_steps (to_z w64 c.loop-t.sum-bits) w c.from.result t c.loop-t-test.true c.loop-t.invariant.1 hw hx in
-    let p = s.product in
-    let a = s.sum in
-    simp to_z-of_z (ap (λ z. to_z w64 c.loop-t.sum-bits +ℤ w *ℤ z) e ∙ product_step c.args.weights.now c.args.window.now t (to_z w64 c.loop-t.sum-bits) c.loop-t.invariant.0, s.size)
+pub returns-clause-size : goal.returns-clause-size
+returns-clause-size c =
+    let h = c.digit_sum-high in
+    let m = c.digit_sum-middle in
+    let l = c.digit_sum-low in
+    let fh : FitsSigned w64 h.result = search rules in
+    let fm : FitsSigned w64 m.result = search rules in
+    let fl : FitsSigned w64 l.result = search rules in
+    let s = join_steps h.result m.result l.result h.ensures.size m.ensures.size l.ensures.size in
+    let a = s.first in
+    let b = s.second in
+    let d = s.third in
+    let e = s.fourth in
+    simp to_z-of_z s.size

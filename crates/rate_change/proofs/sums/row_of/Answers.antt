@@ -14,6 +14,6 @@ returns c =
     let e : c.max.result ≡ int_max c.sum_of.result (pos 1) = simp to_z-of_z at c.max.ensures.value in
     let s : sum_around (in_window c.weights_of-weights.result) ≡ sum_around (weight c.args.up c.args.f) = same_sum (in_window c.weights_of-weights.result) (weight c.args.up c.args.f) 32 (λ t l. window_place c.weights_of-weights.result t ∙ each t l) in
     record {
-      weights_are = each;
+      weights_are = λ t l. c.put_digits.ensures.value t l ∙ each t l;
       divisor_is = simp to_z-of_z (e ∙ ap (λ z. int_max z (pos 1)) (c.sum_of.ensures.value ∙ s));
     }

@@ -31,7 +31,7 @@ returns-clause-value c =
     let fd : FitsSigned w64 row.divisor = fits_signed_from_abs w64 row.divisor (omega (arith, row.most)) in
     let fn : FitsSigned w16 c.nearest_sample.result = search rules in
     let s : c.nearest_sample.result ≡ saturated (nearest c.product.result row.divisor) = simp to_z-of_z at c.nearest_sample.ensures in
-    to_z-of_z w16 c.nearest_sample.result fn ∙ value_from up f row c.args.window.now c.product.result c.nearest_sample.result n is c.product.ensures.value s
+    to_z-of_z w16 c.nearest_sample.result fn ∙ value_from up f c.args.window.now c.product.result row.divisor c.nearest_sample.result n is.divisor_is (c.product.ensures.value up f is) s
   where
     behind : (f : ℕ) → (f ≡ 0 → ⊥) → f - 1 + 1 ≡ f
     behind f n = omega arith
