@@ -35,6 +35,17 @@ pub fn page_at(bytes: &[u8]) -> Step<'_>
     }
 }
 
+/// Room for the bytes of a page, and for no more.
+fn page_room(alloc: Global) -> Result<Vec<u8>, OutOfMemory>
+    ensures empty { IfOk result (λ bytes. bytes.items ≡ []) }
+    ensures reserved { IfOk result (λ bytes. vec_capacity bytes ≡ 65307) }
+{
+    match Vec::with_capacity(alloc, MAX_PAGE_LEN) {
+        Ok(bytes) => Ok(bytes),
+        Err(_) => Err(OutOfMemory),
+    }
+}
+
 /// A reader of pages. It stands for the bytes that it was fed and has not given as pages.
 #[derive(Drop)]
 pub struct PageReader {
@@ -65,10 +76,10 @@ impl PageReader {
     pub fn new(alloc: Global) -> Result<PageReader, OutOfMemory>
         ensures { IfOk result (λ reader. reader ≡ []) }
     {
-        match Vec::with_capacity(alloc, MAX_PAGE_LEN) {
-            Ok(bytes) => Ok(PageReader { bytes, start: 0 }),
-            Err(_) => Err(OutOfMemory),
-        }
+        let Ok(bytes) = page_room(alloc) else {
+            return Err(OutOfMemory);
+        };
+        Ok(PageReader { bytes, start: 0 })
     }
 
     /// The number of bytes that are held.
@@ -93,6 +104,7 @@ impl PageReader {
     }
 
     /// The next page of the bytes that are held. A page that was given is held no longer.
+    // The clause `after` says that, once the loan of the page has ended, the reader holds `after_step` of what it held.
     pub fn next_page(&mut self) -> Step<'_>
         ensures answer { IsStep self.old result }
         ensures* after { sem 𝓛 (follows_so the_row the_row self.entry.ghost_name none (λ _ _. ⊤) (λ n. n ≡ after_step self.old)) }
