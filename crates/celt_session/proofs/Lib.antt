@@ -8,7 +8,9 @@ pub mod Framing
 pub mod Going
 pub mod KindFacts
 pub mod Lining
+pub mod MakerLemmas
 pub mod PacketLemmas
+pub mod Planned
 pub mod Played
 pub mod PlayingPages
 pub mod Putting

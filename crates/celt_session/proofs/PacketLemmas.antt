@@ -4,10 +4,10 @@ use Rattle.std.specs.Prelude.{if◌then◌else◌, nat_lt}
 use Rattle.std.specs.List.{concat, flat_map}
 use Rattle.std.specs.Io.KnownBytes.{Appends}
 use Rattle.std.proofs.KnownBytes.{Appends-nil, Appends-trans}
-use Rattle.std.proofs.Math.Nat.{add-mul, one-mul, mul_assoc}
+use Rattle.std.proofs.Math.Nat.{add-mul, one-mul, zero-add, add-suc, suc-mul}
 use Rattle.std.proofs.Math.Seq.{take-append_seam}
 use Rattle.std.proofs.lemmas.Bool.{le-ltb}
-use Rattle.std.proofs.lemmas.List.{length-replicate, with_items_is}
+use Rattle.std.proofs.lemmas.List.{length-replicate, length-take-le, with_items_is}
 use Rattle.std.proofs.lemmas.List.Concat.{flat_map-append}
 use Rattle.std.specs.declared.alloc.Global.{Global}
 use Rattle.std.specs.Vec.{with_items}
@@ -22,13 +22,14 @@ use Rattle.ogg_pages.specs.Fields.{Page}
 use Rattle.ogg_pages.specs.Spelling.{spelling}
 use Rattle.celt_session.specs.declared.plan.Plan.{Plan}
 use Rattle.celt_session.specs.declared.packer.Packer.{Packer}
+use Rattle.celt_session.specs.Encoding.{audio_page}
 use Rattle.celt_session.specs.Frames.{kind_of, duration}
 use Rattle.celt_session.specs.FrameFunctions.{frames_from}
 use Rattle.celt_session.specs.AudioPages.{Coded, kind_in, packet_of, page_of, packets_from}
 use Rattle.celt_session.specs.Packers.{HasRooms, coded_by, Packs, pages_text, WritesSome, WritesFull, Packed}
-use borrow.Rule.Slice.PartMut.{put_mid}
+use borrow.Rule.Slice.PartMut.{put_mid, mid_of}
 use Rattle.std.proofs.lemmas.Nat.{mul-le}
-use Rattle.celt_session.proofs.Rows.{frames-parts, made_more}
+use Rattle.celt_session.proofs.Rows.{frames-parts, frames-same, made_more}
 
 -- ---- one packet
 
@@ -98,8 +99,15 @@ packets-join c p count (suc more) =
     ∙ ap (λ l. packets_from c p count ++ l) (sym (packets-more c (p + count) more))
 
 -- a room that was lent
-pub lent_whole : (v : Vec ℕ Global) (out : List ℕ) → length out ≡ length v.items → take v.len (out ++ drop (length out) v.items) ≡ out
+pub lent_whole : {X Z : Type 0} (v : Vec X Z) (out : List X) → length out ≡ length v.items → take v.len (out ++ drop (length out) v.items) ≡ out
 lent_whole v out e = with_items_is v out (e ∙ sym v.ok.0)
+
+pub front_len : (n : ℕ) (room : List ℕ) → n ≤ length room → length (mid_of 0 (n - 0) room) ≡ n
+front_len n room h = let e : n - 0 ≡ n = omega arith in ap (λ k. length (take k room)) e ∙ length-take-le n room h
+
+-- a room whose front was lent
+pub lent_front : (v : Vec ℕ Global) (n : ℕ) (out rest : List ℕ) → length out ≡ n → length (out ++ rest) ≡ length v.items → take n (take v.len ((out ++ rest) ++ drop (length (out ++ rest)) v.items)) ≡ out
+lent_front v n out rest len all = ap (take n) (lent_whole v (out ++ rest) all) ∙ ap (λ k. take k (out ++ rest)) (sym len) ∙ take-append_seam out rest
 
 -- ---- their text
 
@@ -180,21 +188,25 @@ module _ (plan : Plan) (frame : ℕ → List ℕ) where
       }
 
     -- more after what was written
-    pub wrote_then : (done more packets : ℕ) (mid now : Packer) (between new : Option (List ℕ)) (result : Result (Unit {0}) Failed) → WritesFull plan frame done packets mid old between
-        → Packed plan frame (done + more) mid.packets now between new result → Packed plan frame (done + more) packets now old new result
-    wrote_then done more packets mid now between new (Ok written) a b = record {
+    pub wrote_on : (done later packets : ℕ) (mid now : Packer) (between new : Option (List ℕ)) (result : Result (Unit {0}) Failed) → WritesFull plan frame done packets mid old between
+        → Packed plan frame later mid.packets now between new result → Packed plan frame later packets now old new result
+    wrote_on done later packets mid now between new (Ok written) a b = record {
       packs = b.packs;
       ahead = let x = a.ahead in let y = b.ahead in omega arith;
       text = subst (Appends old new) (sym (text-between packets mid.packets now.packets a.ahead b.ahead))
           (Appends-trans old between new (pages_text plan frame packets (mid.packets - packets)) (pages_text plan frame mid.packets (now.packets - mid.packets)) a.text b.text);
     }
-    wrote_then done more packets mid now between new (Err failure) a b = record {
+    wrote_on done later packets mid now between new (Err failure) a b = record {
       until = b.until;
       ahead = let x = a.ahead in let y = b.ahead in omega arith;
       within = b.within;
       text = subst (AppendsFront old new) (sym (text-between packets mid.packets b.until a.ahead b.ahead))
           (then_front old between new (pages_text plan frame packets (mid.packets - packets)) (pages_text plan frame mid.packets (b.until - mid.packets)) a.text b.text);
     }
+
+    pub wrote_then : (done more packets : ℕ) (mid now : Packer) (between new : Option (List ℕ)) (result : Result (Unit {0}) Failed) → WritesFull plan frame done packets mid old between
+        → Packed plan frame (done + more) mid.packets now between new result → Packed plan frame (done + more) packets now old new result
+    wrote_then done more = wrote_on done (done + more)
 
     -- one more frame in the packet that is being filled
     pub put_frame : (done packets : ℕ) (bytes room : List ℕ) (mid : Packer) (between : Option (List ℕ)) → HasRooms mid → mid.count < plan.group → length bytes ≡ plan.bytes → bytes ≡ frame done → room ≡ mid.frames.items
@@ -236,3 +248,48 @@ module _ (plan : Plan) (frame : ℕ → List ℕ) where
         let e : done + made + 1 + (count - made - 1) ≡ done + count = omega arith in
         subst (λ n. WritesSome plan frame n packets old new) e
         (wrote_some (done + made + 1) (count - made - 1) packets new (wrote_then (done + made) 1 packets mid mid between new (Err (record {})) a b))
+
+-- ---- frames that are the same up to some number
+
+module _ (plan : Plan) (frame other : ℕ → List ℕ) (done : ℕ) (same : (t : ℕ) → t < done → other t ≡ frame t) where
+  same_from : (t n : ℕ) → t + n ≤ done → frames_from other t n ≡ frames_from frame t n
+  same_from t n h =
+      let none : 0 + t ≡ t = omega arith in
+      frames-same frame other 0 done (λ k less. same k less ∙ ap frame (sym (zero-add k))) t n h ∙ ap (λ k. frames_from frame k n) none
+
+  pub packs-same : (p : Packer) → Packs plan frame done p → Packs plan other done p
+  packs-same p h = record {
+    place = h.place;
+    frames = h.frames ∙ sym (ap concat (same_from (p.packets * plan.group) p.count (let e = h.place in omega arith)));
+  }
+
+  pub packets-same : (p count : ℕ) → (p + count) * plan.group ≤ done → packets_from (coded_by plan other) p count ≡ packets_from (coded_by plan frame) p count
+  packets-same p zero h = packets-none (coded_by plan other) p ∙ sym (packets-none (coded_by plan frame) p)
+  packets-same p (suc count) h =
+      let ends : (p + suc count) * plan.group ≡ (p + count) * plan.group + plan.group = ap (λ n. n * plan.group) (add-suc p count) ∙ suc-mul (p + count) plan.group in
+      let page : List (List ℕ) → Page = λ l. audio_page (packet_of plan.toc l) 0 ((p + count + 1) * plan.group * duration (kind_of plan.toc)) (p + count) in
+      packets-more (coded_by plan other) p count
+      ∙ ap (λ l. l ++ page (frames_from other ((p + count) * plan.group) plan.group) ∷ []) (packets-same p count (omega arith))
+      ∙ ap (λ l. packets_from (coded_by plan frame) p count ++ page l ∷ []) (same_from ((p + count) * plan.group) plan.group (omega arith))
+      ∙ sym (packets-more (coded_by plan frame) p count)
+
+  pub text-same : (p until : ℕ) → p ≤ until → until * plan.group ≤ done → pages_text plan other p (until - p) ≡ pages_text plan frame p (until - p)
+  text-same p until h within =
+      let e : p + (until - p) ≡ until = omega arith in
+      let all = ap (λ n. n * plan.group) e in
+      ap (flat_map spelling) (packets-same p (until - p) (omega arith))
+
+  pub full-same : (packets : ℕ) (now : Packer) (old new : Option (List ℕ)) → WritesFull plan frame done packets now old new → WritesFull plan other done packets now old new
+  full-same packets now old new w = record {
+    packs = packs-same now w.packs;
+    ahead = w.ahead;
+    text = subst (Appends old new) (sym (text-same packets now.packets w.ahead (let e = w.packs.place in omega arith))) w.text;
+  }
+
+  pub some-same : (packets : ℕ) (old new : Option (List ℕ)) → WritesSome plan frame done packets old new → WritesSome plan other done packets old new
+  some-same packets old new w = record {
+    until = w.until;
+    ahead = w.ahead;
+    within = w.within;
+    text = subst (AppendsFront old new) (sym (text-same packets w.until w.ahead w.within)) w.text;
+  }

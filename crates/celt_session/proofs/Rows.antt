@@ -183,3 +183,7 @@ frame-part frame bytes long t made count less =
     ∙ ap (λ l. take bytes (concat l)) (frames-front frame (t + made) left)
     ∙ ap (λ n. take n (frame (t + made) ++ concat (frames_from frame (t + made + 1) left))) (sym (long (t + made)))
     ∙ take-append_seam (frame (t + made)) (concat (frames_from frame (t + made + 1) left))
+
+pub state-none : (f : FrameFunction) (row : Row f) → state_before f row 0 ≡ row.from
+unfolding state_before
+state-none f row = refl

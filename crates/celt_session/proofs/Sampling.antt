@@ -1,6 +1,7 @@
 -- The samples of parts of some bytes.
-use Rattle.std.proofs.Common.{◌≡◌, ℕ, ℤ, pos, zero, suc, ◌*◌, ◌/◌, List, [], ◌∷◌, ◌++◌, length, take, drop, replicate, refl, ◌∙◌, ap, arith}
+use Rattle.std.proofs.Common.{◌≡◌, ℕ, ℤ, pos, zero, suc, ◌*◌, ◌/◌, List, [], ◌∷◌, ◌++◌, length, take, drop, replicate, refl, ◌∙◌, ap, arith, sym}
 use Rattle.std.specs.Int.{w16, cast_signed, from_le_bytes}
+use Rattle.std.proofs.lemmas.List.{take-append-drop, take_all, length-take-le, append_assoc}
 use Rattle.wav_edge.specs.Samples.{samples_of}
 
 abbrev sample : ℕ → ℕ → ℤ
@@ -56,3 +57,16 @@ zeros_step k = refl
 pub samples-zeros : (k : ℕ) → samples_of (replicate (2 * k) 0) ≡ replicate k (pos 0)
 samples-zeros zero = none
 samples-zeros (suc k) = ap (λ n. samples_of (replicate n 0)) (double_more k) ∙ zeros_step k ∙ ap (λ l. pos 0 ∷ l) (samples-zeros k)
+
+-- more bytes only add samples
+pub samples-longer : (bytes more : List ℕ) → samples_of (bytes ++ more) ≡ samples_of bytes ++ samples_of (drop (2 * (length bytes / 2)) bytes ++ more)
+samples-longer bytes more =
+    let k = length bytes / 2 in
+    let front = take (2 * k) bytes in
+    let rest = drop (2 * k) bytes in
+    let len : length front ≡ 2 * k = length-take-le (2 * k) bytes (omega arith) in
+    let all : take k (samples_of bytes) ≡ samples_of bytes = take_all k (samples_of bytes) (let e = samples-len bytes in omega arith) in
+    ap (λ l. samples_of (l ++ more)) (sym (take-append-drop (2 * k) bytes))
+    ∙ ap samples_of (append_assoc front rest more)
+    ∙ samples-join k front (rest ++ more) len
+    ∙ ap (λ l. l ++ samples_of (rest ++ more)) (samples-take k bytes ∙ all)

@@ -6,6 +6,7 @@ use Rattle.std.proofs.lemmas.Bool.{cases_lt}
 use Rattle.std.proofs.lemmas.List.{take-append-le, drop-append-le, take_all, drop_all, length-replicate, replicate-append-replicate, take-replicate, drop-drop, drop-take, take-take}
 use Rattle.wav_edge.specs.Samples.{samples_of}
 use Rattle.celt_session.specs.Windows.{items_from, lead, window_of}
+use Rattle.celt_session.specs.Makers.{group_bytes, held_of}
 use Rattle.celt_session.proofs.Sampling.{samples-join, samples-drop, samples-take, samples-zeros, samples-len}
 
 -- ---- items from a place on
@@ -44,10 +45,6 @@ module _ {A : Type 0} (filling : A) where
 
 -- ---- windows
 
--- the bytes of so many samples per channel
-abbrev pub group_bytes : ℕ → ℕ → ℕ
-group_bytes channels count = 2 * (channels * count)
-
 -- a frame's window does not reach behind its own samples
 window_reach : (channels samples t : ℕ) (input : List ℤ) → channels * ((t + 1) * samples) ≤ length input
     → channels * (t * samples) + channels * (lead + samples) ≤ length (replicate (channels * lead) (pos 0) ++ input)
@@ -76,10 +73,6 @@ window-filled channels samples t input more =
     let zeros = replicate (channels * lead) (pos 0) in
     ap (items_from (pos 0) (channels * (t * samples)) (channels * (lead + samples))) (sym (append_assoc zeros input (replicate more (pos 0))))
     ∙ items-filled (pos 0) (channels * (t * samples)) (channels * (lead + samples)) more (zeros ++ input)
-
--- What is held of the bytes of samples: those of so many samples of 0, and then the input's, without the first frames of them.
-abbrev pub held_of : ℕ → ℕ → ℕ → List ℕ → List ℕ
-held_of channels samples done heard = drop (group_bytes channels (done * samples)) (replicate (group_bytes channels lead) 0 ++ heard)
 
 -- the samples of bytes that are held
 held_samples : (channels samples done : ℕ) (heard : List ℕ)
@@ -174,3 +167,14 @@ held-len channels samples done heard held is within =
     let z : length zeros ≡ group_bytes channels lead = length-replicate {A = ℕ} (group_bytes channels lead) 0 in
     let e : length held ≡ length (zeros ++ heard) - group_bytes channels (done * samples) = ap length is ∙ length-drop (group_bytes channels (done * samples)) (zeros ++ heard) in
     omega arith
+
+pub held-within : (channels samples done count : ℕ) (heard held : List ℕ) → held ≡ held_of channels samples done heard → group_bytes channels (done * samples) ≤ length heard
+    → 2 * (channels * (lead + count * samples)) ≤ length held → group_bytes channels ((done + count) * samples) ≤ length heard
+held-within channels samples done count heard held is within room =
+    let len = held-len channels samples done heard held is within in
+    let a = mul-add channels lead (count * samples) in
+    let b : channels * ((done + count) * samples) ≡ channels * (done * samples) + channels * (count * samples) = ap (λ n. channels * n) (add-mul done count samples) ∙ mul-add channels (done * samples) (count * samples) in
+    omega arith
+
+pub used-is : (channels count samples : ℕ) → 2 * channels * count * samples ≡ group_bytes channels (count * samples)
+used-is channels count samples = ap (λ n. n * samples) (mul_assoc 2 channels count) ∙ mul_assoc 2 (channels * count) samples ∙ ap (λ n. 2 * n) (mul_assoc channels count samples)

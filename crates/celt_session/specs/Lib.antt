@@ -7,9 +7,12 @@ pub mod Encoding
 pub mod Encodings
 pub mod Forms
 pub mod FrameFunctions
+pub mod FrameSessions
 pub mod FrameWorks
+pub mod Framers
 pub mod Frames
 pub mod Lines
+pub mod Makers
 pub mod Outcomes
 pub mod Packers
 pub mod PageFunctions

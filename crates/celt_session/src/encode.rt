@@ -47,7 +47,7 @@ fn band_of(band: u32) -> Bandwidth
 }
 
 /// The settings as a stream's frames have them.
-fn coding_of(settings: Settings) -> Coding
+pub(crate) fn coding_of(settings: Settings) -> Coding
     ensures { result ≡ coding_for settings }
 {
     Coding {

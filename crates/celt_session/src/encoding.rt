@@ -61,7 +61,11 @@ fn write_one<K: Sink>(
 }
 
 /// Writes the pages of the two headers.
-fn write_headers<K: Sink>(channels: u8, room: &mut [u8], output: &mut K) -> Result<(), Failed>
+pub(crate) fn write_headers<K: Sink>(
+    channels: u8,
+    room: &mut [u8],
+    output: &mut K,
+) -> Result<(), Failed>
     requires channels { (channels ≡ 1) ⊎ (channels ≡ 2) }
     requires room { length room.old ≡ 65307 }
     ensures bytes { WritesAll (K.held output.old) (K.held output.new) result (spelling (head_page channels) ++ spelling tags_page) }

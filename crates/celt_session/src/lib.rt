@@ -3,6 +3,7 @@
 #![tactic(auto)]
 
 mod batch;
+mod batching;
 mod choice;
 mod coding;
 mod decoding;
@@ -11,16 +12,22 @@ mod encoded_laws;
 mod encoding;
 mod encoding_laws;
 mod fed;
+mod frame_session;
 mod frame_work;
+mod framer;
 mod giving;
 mod laws;
 mod lines;
+mod maker;
+mod making;
 mod packer;
 mod packet_writer;
 mod packing;
 mod plan;
+mod planning;
 mod playing;
 mod reading;
+mod recording;
 mod samples;
 mod session;
 mod settings;

@@ -53,7 +53,7 @@ impl Lines {
 }
 
 /// The number of coded bands of a configuration (RFC 6716, section 4.3).
-fn end_of(config: u32) -> u8
+pub(crate) fn end_of(config: u32) -> u8
     ensures value { result ≡ end_of_config config }
     ensures ended { IsTrue (is_band_end result) }
 {

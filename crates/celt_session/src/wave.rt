@@ -26,7 +26,7 @@ pub struct Wave {
 }
 
 /// The bytes of the samples: those of the declared size, or all.
-fn within_size(size: Option<u64>, bytes: &[u8]) -> &[u8]
+pub(crate) fn within_size(size: Option<u64>, bytes: &[u8]) -> &[u8]
     ensures { result.now ≡ kept_within size bytes.now }
 {
     let Some(size) = size else {
