@@ -24,7 +24,7 @@ fn sliding(rt: HostRuntime) {
 
 // What a signal is made by, of two numbers.
 #[derive(Clone, Copy)]
-enum Shape {
+pub enum Shape {
     Silence,
     // a period, and the height: above 0 in its first half, and below 0 in the second
     Square,
@@ -43,7 +43,7 @@ enum Shape {
 }
 
 #[derive(Clone, Copy)]
-struct Signal {
+pub struct Signal {
     shape: Shape,
     first: i64,
     second: i64,
@@ -131,14 +131,14 @@ fn grown(height: i64, times: u32) -> i64 {
 
 // What the second channel is made by.
 #[derive(Clone, Copy)]
-enum Right {
+pub enum Right {
     Same,
     Opposite,
     Noise,
 }
 
 // The samples of a window; 0 before the first.
-fn window_of(signal: Signal, right: Right, kind: Kind, frame: u32) -> [i16; 4210] {
+pub fn window_of(signal: Signal, right: Right, kind: Kind, frame: u32) -> [i16; 4210] {
     let mut out = [0i16; 4210];
     let size = 120u32 << kind.lm;
     let channels = kind.channels as usize;
@@ -167,7 +167,7 @@ fn second(left: i16, signal: Signal, right: Right, n: u32) -> i16 {
 }
 
 // The setting for a window of a kind.
-fn pitch_in(window: &[i16; 4210], kind: Kind) -> Setting {
+pub fn pitch_in(window: &[i16; 4210], kind: Kind) -> Setting {
     let size = kind.channels as usize * (1145 + (120usize << kind.lm));
     match window.get(..size) {
         Some(samples) => pitch(samples, kind),
@@ -177,13 +177,13 @@ fn pitch_in(window: &[i16; 4210], kind: Kind) -> Setting {
 
 // The words of a row that were not read yet.
 #[derive(Clone, Copy)]
-struct Words<'a> {
-    rest: &'a str,
+pub struct Words<'a> {
+    pub rest: &'a str,
 }
 
 impl<'a> Words<'a> {
     // The next word.
-    fn next(&mut self) -> &'a str {
+    pub fn next(&mut self) -> &'a str {
         match self.rest.split_once(' ') {
             Some((word, rest)) => {
                 self.rest = rest;
@@ -198,12 +198,12 @@ impl<'a> Words<'a> {
     }
 
     // The next word as a number.
-    fn number(&mut self) -> i64 {
+    pub fn number(&mut self) -> i64 {
         self.next().parse().unwrap_or(0)
     }
 
     // The next words as a signal.
-    fn signal(&mut self) -> Signal {
+    pub fn signal(&mut self) -> Signal {
         let shape = shape_of(self.next());
         Signal {
             shape,
@@ -253,7 +253,7 @@ fn shape_of(word: &str) -> Shape {
     Shape::Silence
 }
 
-fn right_of(word: &str) -> Right {
+pub fn right_of(word: &str) -> Right {
     if word == "opposite" {
         return Right::Opposite;
     }
