@@ -1,10 +1,14 @@
+pub mod Beginning
 pub mod Choosing
 pub mod Cutting
 pub mod Encoded
 pub mod EncodedPages
+pub mod EncodedSteps
+pub mod FeedingSamples
 pub mod Finishing
 pub mod Folding
 pub mod Framing
+pub mod GivenPages
 pub mod Going
 pub mod KindFacts
 pub mod Lining
@@ -24,4 +28,3 @@ pub mod WholeInput
 pub mod WholeReads
 pub mod WindowLemmas
 pub mod ZeroSamples
-pub mod EncodedSteps

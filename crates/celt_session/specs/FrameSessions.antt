@@ -112,6 +112,16 @@ pub record IsTaking {W : Type 0} (w : FrameWorks W) (r : Recording) (m : Maker W
   pub going : GoesOn r.plan m
   pub sum : m.packer.packets + m.packer.count + length m.framer.held.items ≤ fed + 4580
 
+-- the samples have begun, of so many channels and of this size
+pub record IsBegun {W : Type 0} (w : FrameWorks W) (settings : Settings) (channels : ℕ) (size : Option ℕ) (before : Maker W) (r : Recording) (m : Maker W) : Type 0 where
+  pub toc : r.plan.toc ≡ toc_of (coding_of settings) channels
+  pub bytes_are : r.plan.bytes ≡ settings.bytes
+  pub group : r.plan.group ≡ settings.group
+  pub left : r.left ≡ size
+  pub taking : IsTaking w r m 0
+  pub packets : m.packer.packets ≡ 0
+  pub made : w.Shows before.work w.function.start → HasMade w r.plan [] 0 m
+
 abbrev pub GoesBy : {W : Type 0} (w : FrameWorks W) → FrameSession W → Option Recording → Type 0
 GoesBy w s None = IsReading w s
 GoesBy w s (Some r) = IsTaking w r s.maker s.fed
