@@ -1,5 +1,5 @@
 //! The room in which the shapes of a frame are made, and which keeps them until the next frame.
-ghost use Rattle.std.specs.Prelude.{◌≤◌, vec_capacity};
+ghost use Rattle.std.specs.Prelude.{◌≡◌, ◌≤◌, IfOk, vec_capacity};
 
 use crate::bands::Lines;
 use crate::pairs::Bench;
@@ -22,6 +22,16 @@ pub struct ShapeRoom {
     ghost right_room: { 800 ≤ vec_capacity right },
 }
 
+// Room for the items of a channel, and for no more.
+fn vector_room(alloc: Global) -> Result<Vec<i64>, OutOfMemory>
+    ensures { IfOk result (λ items. vec_capacity items ≡ 800) }
+{
+    match Vec::with_capacity(alloc, MOST) {
+        Ok(items) => Ok(items),
+        Err(_) => Err(OutOfMemory),
+    }
+}
+
 impl ShapeRoom {
     ghost use Rattle.std.specs.Prelude.{◌≡◌};
     ghost use Rattle.std.specs.Borrow.{sem};
@@ -30,10 +40,10 @@ impl ShapeRoom {
 
     /// Takes the memory for all frames to come.
     pub fn new(alloc: Global) -> Result<ShapeRoom, OutOfMemory> {
-        let Ok(left) = Vec::with_capacity(alloc, MOST) else {
+        let Ok(left) = vector_room(alloc) else {
             return Err(OutOfMemory);
         };
-        let Ok(right) = Vec::with_capacity(alloc, MOST) else {
+        let Ok(right) = vector_room(alloc) else {
             return Err(OutOfMemory);
         };
         Ok(ShapeRoom {

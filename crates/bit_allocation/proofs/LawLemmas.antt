@@ -17,7 +17,7 @@ use Rattle.bit_allocation.specs.Counts.{sum_below, few, IsGreatest}
 use Rattle.bit_allocation.specs.Facts.{IsPlan, IsTurn, IsSkipped, IsStereo, whole_of}
 use Rattle.bit_allocation.specs.Plans.{plan_of}
 use Rattle.bit_allocation.specs.Requests.{AreBoosts, IsTrim}
-use Rattle.bit_allocation.specs.Scripts.{choice_now, left_of, offer_of, turn_script, after_turn, skipped, skip_script, intensity_script, dual_script, stereo_script, plan_script, allocation_script}
+use Rattle.bit_allocation.specs.Scripts.{intensity_now, left_of, offer_of, turn_script, after_turn, skipped, skip_script, intensity_script, dual_script, stereo_script, plan_script, allocation_script}
 use Rattle.bit_allocation.specs.Shares.{balance_of, split_at, skipped_split, by_bands, allocation_of}
 use Rattle.bit_allocation.specs.Totals.{given_of, taken_of, IsBlank}
 use Rattle.bit_allocation.proofs.AllocationLemmas.{allocation_is, request_with, band_skipped, valid_for}
@@ -102,12 +102,12 @@ skip_step p band asked used bits s is follow false e m =
     add_one : (n : ℕ) → n + 1 ≡ suc n
     add_one n = omega arith
 
-    within : offer_of p band asked bits ≤ slice_index bits band + ((p.reserves.rest + p.reserves.choice) - (used + choice_now p (suc band)))
+    within : offer_of p band asked bits ≤ slice_index bits band + ((p.reserves.rest + p.reserves.intensity) - (used + intensity_now p (suc band)))
     within =
         let end = end_most p.kind in
         let most = is.most in
         let w = offer_within p band asked bits (omega (arith, end, most)) in
-        let l : left_of p (band + 1) asked bits ≡ (p.reserves.rest + p.reserves.choice) - (used + choice_now p (suc band)) =
+        let l : left_of p (band + 1) asked bits ≡ (p.reserves.rest + p.reserves.intensity) - (used + intensity_now p (suc band)) =
         ap (λ n. left_of p n asked bits) (add_one band) ∙ sym (on_left p (suc band) asked used bits is) in
         omega (arith, w, l)
 
@@ -121,7 +121,7 @@ skip_step p band asked used bits s is follow false e m =
     by_turn (Goes more share) turn m =
         let above : p.start < band = grind (arith, nat_tests) in
         follow (asked + more) (used + 8 * more + share - slice_index bits band) (slice_set bits band share)
-        (on_next p (suc band) band asked used more share ((p.reserves.rest + p.reserves.choice) - (used + choice_now p (suc band))) (offer_of p band asked bits) bits refl above is refl within turn) m
+        (on_next p (suc band) band asked used more share ((p.reserves.rest + p.reserves.intensity) - (used + intensity_now p (suc band))) (offer_of p band asked bits) bits refl above is refl within turn) m
 
 skip_may : (p : Plan) (coded asked used : ℕ) (bits : List ℕ) (s : Skipped) → IsOn p coded asked used bits → MayGive (skip_script p coded asked bits) s → IsSkipped p s
 unfolding skip_script
@@ -129,20 +129,20 @@ skip_may p zero asked used bits s is m = let above = is.above in absurd (omega (
 skip_may p (suc band) asked used bits s is m =
     skip_step p band asked used bits s is (λ a u b i n. skip_may p band a u b s i n) (nat_le band p.start) refl m
 
-intensity_may : (p : Plan) (coded i : ℕ) → MayGive (intensity_script p coded) i → (i ≤ coded) × (p.reserves.choice ≡ 0 → i ≡ 0)
+intensity_may : (p : Plan) (coded i : ℕ) → MayGive (intensity_script p coded) i → (i ≤ coded) × (p.reserves.intensity ≡ 0 → i ≡ 0)
 unfolding intensity_script asks_at
-intensity_may p coded i = by_test (nat_eq p.reserves.choice 0) refl
+intensity_may p coded i = by_test (nat_eq p.reserves.intensity 0) refl
   where
     within : (z : ℤ) → IsBelow (coded + 1) z → raised z ≤ coded
     within (pos n) below = omega (arith, below)
     within (negsuc n) below = absurd below
 
-    by_test : (b : Bool) → nat_eq p.reserves.choice 0 ≡ b
+    by_test : (b : Bool) → nat_eq p.reserves.intensity 0 ≡ b
         → MayGive (if b then Done 0 else Ask (Intensity coded) (Uniform (coded + 1)) (λ answer. Done (raised answer))) i
-        → (i ≤ coded) × (p.reserves.choice ≡ 0 → i ≡ 0)
+        → (i ≤ coded) × (p.reserves.intensity ≡ 0 → i ≡ 0)
     by_test true e m = (omega (arith, m), λ none. m)
     by_test false e m =
-        let some : p.reserves.choice ≢ 0 = grind (arith, nat_tests) in
+        let some : p.reserves.intensity ≢ 0 = grind (arith, nat_tests) in
         let w = within m.0 m.1 in
         let v = m.2 in
         (omega (arith, w, v), λ none. absurd (some none))
@@ -310,7 +310,7 @@ most_skip p (suc band) asked bits n below =
 
 most_intensity : (p : Plan) (coded : ℕ) → AtMost 1 (intensity_script p coded)
 unfolding intensity_script
-most_intensity p coded = by_test (nat_eq p.reserves.choice 0)
+most_intensity p coded = by_test (nat_eq p.reserves.intensity 0)
   where
     by_test : (b : Bool) → AtMost 1 (if b then Done 0 else and_then (asks_at (Intensity coded) (Uniform (coded + 1))) (λ answer. Done (raised answer)))
     by_test true = tt

@@ -12,7 +12,7 @@ use Rattle.bit_allocation.specs.declared.request.Request.{Request}
 use Rattle.bit_allocation.specs.Amounts.{raised, boost_of, value_of, tilted, usual_of, bit_each, most_of}
 use Rattle.bit_allocation.specs.Counts.{sum_below, count_of, counts_of, boosted_of, first_of, stepped_of, quality_of, step_of, is_reached}
 use Rattle.bit_allocation.specs.Facts.{IsPlan, whole_of}
-use Rattle.bit_allocation.specs.Plans.{choice_bits, skip_reserve, choice_reserve, dual_reserve, reserves_of, boosted_top, bands_to, plan_of}
+use Rattle.bit_allocation.specs.Plans.{intensity_bits, skip_reserve, intensity_reserve, dual_reserve, reserves_of, boosted_top, bands_to, plan_of}
 use Rattle.bit_allocation.specs.Requests.{IsRequest}
 use Rattle.bit_allocation.proofs.AmountLemmas.{end_least, band_inside, usual_is}
 use Rattle.celt_base.proofs.BandEnds.{end_most}
@@ -77,7 +77,7 @@ some_boost (negsuc n) high = absurd (omega (arith, ints, high))
 
 -- the records of the code
 abbrev pub reserves_with : ℕ → ℕ → ℕ → ℕ → Reserves
-reserves_with total skip choice dual = record { skip = skip; choice = choice; dual = dual; rest = total - skip - choice - dual }
+reserves_with total skip intensity dual = record { skip = skip; intensity = intensity; dual = dual; rest = total - skip - intensity - dual }
 
 abbrev pub plan_with : Kind → Reserves → ℕ → List ℕ → Plan
 plan_with kind reserves start bits = record { kind = kind; reserves = reserves; start = start; bits = bits }
@@ -163,31 +163,31 @@ bits_fit r rest = elim (cases_eq (step_of r (quality_of r rest) rest) 0) [
 skip_within : (total : ℕ) → skip_reserve total ≤ total
 skip_within total = grind (arith, nat_tests)
 
-choice_within : (kind : Kind) (left : ℕ) → choice_reserve kind left ≤ left
-choice_within kind left = either (nat_eq kind.channels 2) (nat_le (choice_bits kind.end) left) (choice_bits kind.end) refl
+intensity_within : (kind : Kind) (left : ℕ) → intensity_reserve kind left ≤ left
+intensity_within kind left = either (nat_eq kind.channels 2) (nat_le (intensity_bits kind.end) left) (intensity_bits kind.end) refl
   where
     either : (a b : Bool) (bits : ℕ) → nat_le bits left ≡ b → (if a && b then bits else 0) ≤ left
     either true true bits t = grind (arith, nat_tests)
     either true false bits t = omega arith
     either false b bits t = omega arith
 
-dual_within : (choice left : ℕ) → dual_reserve choice left ≤ left
-dual_within choice left = either (nat_lt 0 choice) (nat_le 8 left) refl
+dual_within : (intensity left : ℕ) → dual_reserve intensity left ≤ left
+dual_within intensity left = either (nat_lt 0 intensity) (nat_le 8 left) refl
   where
     either : (a b : Bool) → nat_le 8 left ≡ b → (if a && b then 8 else 0) ≤ left
     either true true t = grind (arith, nat_tests)
     either true false t = omega arith
     either false b t = omega arith
 
-choice_is : (test : Bool) (n : ℕ) → (if test then n else 0) ≡ (if nat_eq (if test then n else 0) 0 then 0 else n)
-choice_is true n = grind (arith, nat_tests)
-choice_is false n = refl
+intensity_is : (test : Bool) (n : ℕ) → (if test then n else 0) ≡ (if nat_eq (if test then n else 0) 0 then 0 else n)
+intensity_is true n = grind (arith, nat_tests)
+intensity_is false n = refl
 
-choice_mono : (kind : Kind) (left : ℕ) → kind.channels ≡ 1 → choice_reserve kind left ≡ 0
-choice_mono kind left one = let t : nat_eq kind.channels 2 ≡ false = grind (arith, nat_tests) in rw t refl
+intensity_mono : (kind : Kind) (left : ℕ) → kind.channels ≡ 1 → intensity_reserve kind left ≡ 0
+intensity_mono kind left one = let t : nat_eq kind.channels 2 ≡ false = grind (arith, nat_tests) in rw t refl
 
-dual_none : (choice left : ℕ) → choice ≡ 0 → dual_reserve choice left ≡ 0
-dual_none choice left none = rw none refl
+dual_none : (intensity left : ℕ) → intensity ≡ 0 → dual_reserve intensity left ≡ 0
+dual_none intensity left none = rw none refl
 
 pub plan_is : (r : Request) → IsRequest r → IsPlan (plan_of r)
 unfolding plan_of reserves_of
@@ -195,20 +195,20 @@ plan_is r is =
     let kind = r.kind in
     let total : ℕ = raised r.total in
     let skip : ℕ = skip_reserve total in
-    let choice : ℕ = choice_reserve kind (total - skip) in
-    let dual : ℕ = dual_reserve choice (total - skip - choice) in
-    let rest : ℕ = total - skip - choice - dual in
+    let intensity : ℕ = intensity_reserve kind (total - skip) in
+    let dual : ℕ = dual_reserve intensity (total - skip - intensity) in
+    let rest : ℕ = total - skip - intensity - dual in
     let s = skip_within total in
-    let h = choice_within kind (total - skip) in
-    let d = dual_within choice (total - skip - choice) in
+    let h = intensity_within kind (total - skip) in
+    let d = dual_within intensity (total - skip - intensity) in
     let t = raised_most r.total is.total in
     let some = end_least kind in
     let bits = bits_fit r rest in
     record {
       start = start_below r kind.end some;
-      choice = choice_is (nat_eq kind.channels 2 && nat_le (choice_bits kind.end) (total - skip)) (choice_bits kind.end);
-      mono = choice_mono kind (total - skip);
-      dual = dual_none choice (total - skip - choice);
+      intensity = intensity_is (nat_eq kind.channels 2 && nat_le (intensity_bits kind.end) (total - skip)) (intensity_bits kind.end);
+      mono = intensity_mono kind (total - skip);
+      dual = dual_none intensity (total - skip - intensity);
       whole = omega (arith, s, h, d, t);
       length_is = length-map-range_with_len (λ band. if nat_lt band kind.end then count_of kind (stepped_of r (quality_of r rest) (step_of r (quality_of r rest) rest)) band else 0) 0 21;
       fits = subst (λ n. n ≤ rest) (counts_read kind (stepped_of r (quality_of r rest) (step_of r (quality_of r rest) rest))) bits;
@@ -228,9 +228,9 @@ pub whole_is : (kind : Kind) (total : ℕ) → whole_of (reserves_of kind total)
 unfolding reserves_of
 whole_is kind total =
     let skip : ℕ = skip_reserve total in
-    let choice : ℕ = choice_reserve kind (total - skip) in
-    let dual : ℕ = dual_reserve choice (total - skip - choice) in
+    let intensity : ℕ = intensity_reserve kind (total - skip) in
+    let dual : ℕ = dual_reserve intensity (total - skip - intensity) in
     let s = skip_within total in
-    let h = choice_within kind (total - skip) in
-    let d = dual_within choice (total - skip - choice) in
+    let h = intensity_within kind (total - skip) in
+    let d = dual_within intensity (total - skip - intensity) in
     omega (arith, s, h, d)

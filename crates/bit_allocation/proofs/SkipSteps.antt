@@ -11,8 +11,8 @@ use Rattle.bit_allocation.specs.declared.turns.Turn.TheVariants.{Stays, Goes}
 use Rattle.bit_allocation.specs.Amounts.{threshold_of, bit_each}
 use Rattle.bit_allocation.specs.Counts.{sum_below, few}
 use Rattle.bit_allocation.specs.Facts.{IsPlan, IsTurn, IsSkipped}
-use Rattle.bit_allocation.specs.Plans.{choice_bits}
-use Rattle.bit_allocation.specs.Scripts.{choice_now, left_of, offer_of, turn_script, after_turn, skipped, skip_script}
+use Rattle.bit_allocation.specs.Plans.{intensity_bits}
+use Rattle.bit_allocation.specs.Scripts.{intensity_now, left_of, offer_of, turn_script, after_turn, skipped, skip_script}
 use Rattle.bit_allocation.specs.Shares.{even_of, beyond_of}
 use Rattle.celt_base.proofs.BandEnds.{end_most}
 use Rattle.bit_allocation.proofs.CountLemmas.{sum_same}
@@ -52,13 +52,13 @@ part_within f band (suc n) inside = elim (cases_eq band n) [
 ]
 
 -- what is laid aside for the choice falls with the bands
-choice_falls : (p : Plan) (band : ℕ) → band < 21 → choice_now p band ≤ choice_now p (suc band)
-choice_falls p band inside = either (nat_eq p.reserves.choice 0)
+intensity_falls : (p : Plan) (band : ℕ) → band < 21 → intensity_now p band ≤ intensity_now p (suc band)
+intensity_falls p band inside = either (nat_eq p.reserves.intensity 0)
   where
-    bits_rise : choice_bits band ≤ choice_bits (suc band)
-    bits_rise = at_most (choice_bits band) (choice_bits (suc band)) (at_each (λ k. nat_le (choice_bits k) (choice_bits (suc k))) 21 band refl inside)
+    bits_rise : intensity_bits band ≤ intensity_bits (suc band)
+    bits_rise = at_most (intensity_bits band) (intensity_bits (suc band)) (at_each (λ k. nat_le (intensity_bits k) (intensity_bits (suc k))) 21 band refl inside)
 
-    either : (b : Bool) → (if b then 0 else choice_bits band) ≤ (if b then 0 else choice_bits (suc band))
+    either : (b : Bool) → (if b then 0 else intensity_bits band) ≤ (if b then 0 else intensity_bits (suc band))
     either true = omega arith
     either false = bits_rise
 
@@ -68,27 +68,27 @@ pub record IsOn (p : Plan) (coded asked used : ℕ) (bits : List ℕ) : Type 0 w
   pub most : coded ≤ p.kind.end
   pub length_is : length bits ≡ 21
   pub used_is : used ≡ sum_below (slice_index bits) p.kind.end + 8 * asked
-  pub fits : used + choice_now p coded ≤ p.reserves.rest + p.reserves.choice
+  pub fits : used + intensity_now p coded ≤ p.reserves.rest + p.reserves.intensity
   pub beyond : (band : ℕ) → p.kind.end ≤ band → slice_index bits band ≡ 0
   pub few_bits : (band : ℕ) → coded ≤ band → slice_index bits band ≤ 16
 
 pub on_start : (p : Plan) → IsPlan p → IsOn p p.kind.end 0 (sum_below (slice_index p.bits) p.kind.end) p.bits
 on_start p is =
     let fits = is.fits in
-    let choice = is.choice in
+    let intensity = is.intensity in
     record {
       above = is.start;
       most = omega arith;
       length_is = is.length_is;
       used_is = omega arith;
-      fits = omega (arith, fits, choice);
+      fits = omega (arith, fits, intensity);
       beyond = is.beyond;
       few_bits = λ band above. let z = is.beyond band above in omega (arith, z);
     }
 
 -- what is left, and the offer
 pub on_left : (p : Plan) (coded asked used : ℕ) (bits : List ℕ) → IsOn p coded asked used bits
-    → (p.reserves.rest + p.reserves.choice) - (used + choice_now p coded) ≡ left_of p coded asked bits
+    → (p.reserves.rest + p.reserves.intensity) - (used + intensity_now p coded) ≡ left_of p coded asked bits
 unfolding left_of
 on_left p coded asked used bits is = let u = is.used_is in omega (arith, u)
 
@@ -108,7 +108,7 @@ pub on_next : (p : Plan) (coded band asked used more share left offer : ℕ) (bi
     → coded ≡ suc band
     → p.start < band
     → IsOn p coded asked used bits
-    → left ≡ (p.reserves.rest + p.reserves.choice) - (used + choice_now p coded)
+    → left ≡ (p.reserves.rest + p.reserves.intensity) - (used + intensity_now p coded)
     → offer ≤ slice_index bits band + left
     → IsTurn offer (Goes more share)
     → IsOn p band (asked + more) (used + 8 * more + share - slice_index bits band) (slice_set bits band share)
@@ -120,7 +120,7 @@ on_next p coded band asked used more share left offer bits e above is left_is wi
     let bit = bit_used p coded asked used bits band is (omega (arith, most, e)) in
     let used_is = is.used_is in
     let fits = is.fits in
-    let falls : choice_now p band ≤ choice_now p coded = subst (λ n. choice_now p band ≤ choice_now p n) (sym e) (choice_falls p band (omega (arith, most, e, end))) in
+    let falls : intensity_now p band ≤ intensity_now p coded = subst (λ n. intensity_now p band ≤ intensity_now p n) (sym e) (intensity_falls p band (omega (arith, most, e, end))) in
     let given = turn.2 in
     let small = turn.1 in
     record {
@@ -138,7 +138,7 @@ on_next p coded band asked used more share left offer bits e above is left_is wi
 
 -- what stands after skipping
 pub on_end : (p : Plan) (coded asked used back left : ℕ) (bits : List ℕ) → IsOn p coded asked used bits → back ≤ p.reserves.skip
-    → left ≡ (p.reserves.rest + p.reserves.choice) - (used + choice_now p coded) + back
+    → left ≡ (p.reserves.rest + p.reserves.intensity) - (used + intensity_now p coded) + back
     → IsSkipped p (record { coded = coded; left = left; bits = bits })
 on_end p coded asked used back left bits is few left_is =
     let above = is.above in
@@ -243,7 +243,7 @@ record AreOffered (p : Plan) (coded band asked left offer : ℕ) (bits : List �
 offered : (p : Plan) (coded band asked used left offer : ℕ) (bits : List ℕ)
     → coded ≡ suc band
     → IsOn p coded asked used bits
-    → left ≡ (p.reserves.rest + p.reserves.choice) - (used + choice_now p coded)
+    → left ≡ (p.reserves.rest + p.reserves.intensity) - (used + intensity_now p coded)
     → offer ≡ slice_index bits band + even_of left (band + 1) * width_of band + beyond_of left (band + 1) band
     → AreOffered p coded band asked left offer bits
 offered p coded band asked used left offer bits e is left_is offer_is =
@@ -285,7 +285,7 @@ module _ {C H : Type 0} {coder : CoderCalls C} {chooser : ChooserCalls H} where
       → p.start < band
       → kind ≡ p.kind
       → Skipping coder chooser p coded used bits c h d k
-      → left ≡ (p.reserves.rest + p.reserves.choice) - (used + choice_now p coded)
+      → left ≡ (p.reserves.rest + p.reserves.intensity) - (used + intensity_now p coded)
       → offer ≡ slice_index bits band + even_of left (band + 1) * width_of band + beyond_of left (band + 1) band
       → Walked coder chooser (turn_script kind band offer) Stays d k e m
       → Walked coder chooser (skip_script p p.kind.end 0 p.bits) (record { coded = coded; left = left; bits = bits }) c h e m
@@ -303,7 +303,7 @@ module _ {C H : Type 0} {coder : CoderCalls C} {chooser : ChooserCalls H} where
       → p.start < band
       → kind ≡ p.kind
       → Skipping coder chooser p coded used bits c h d k
-      → left ≡ (p.reserves.rest + p.reserves.choice) - (used + choice_now p coded)
+      → left ≡ (p.reserves.rest + p.reserves.intensity) - (used + intensity_now p coded)
       → offer ≡ slice_index bits band + even_of left (band + 1) * width_of band + beyond_of left (band + 1) band
       → offer ≤ slice_index bits band + left
       → IsTurn offer (Goes more share)
@@ -325,7 +325,7 @@ module _ {C H : Type 0} {coder : CoderCalls C} {chooser : ChooserCalls H} where
       → coded ≡ suc band
       → band ≤ p.start
       → Skipping coder chooser p coded used bits c h d k
-      → left ≡ (p.reserves.rest + p.reserves.choice) - (used + choice_now p coded)
+      → left ≡ (p.reserves.rest + p.reserves.intensity) - (used + intensity_now p coded)
       → Walked coder chooser (skip_script p p.kind.end 0 p.bits) (record { coded = coded; left = left + p.reserves.skip; bits = bits }) c h d k
   skip_ends {c = c} {d = d} {h = h} {k = k} p coded band used left bits one low s left_is =
       let l : left ≡ left_of p coded s.asked bits = left_is ∙ on_left p coded s.asked used bits s.is in

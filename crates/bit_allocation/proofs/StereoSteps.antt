@@ -31,19 +31,19 @@ both_some a b some more =
     rw (t, u) refl
 
 module _ {C H : Type 0} {coder : CoderCalls C} {chooser : ChooserCalls H} where
-  pub intensity_none : {c : C} {h : H} (p : Plan) (coded : ℕ) → p.reserves.choice ≡ 0 → Walked coder chooser (intensity_script p coded) 0 c h c h
+  pub intensity_none : {c : C} {h : H} (p : Plan) (coded : ℕ) → p.reserves.intensity ≡ 0 → Walked coder chooser (intensity_script p coded) 0 c h c h
   unfolding intensity_script
   intensity_none p coded none =
-      let t : nat_eq p.reserves.choice 0 ≡ true = grind (arith, nat_tests) in
-      when_true (nat_eq p.reserves.choice 0) _ _ t no_walk
+      let t : nat_eq p.reserves.intensity 0 ≡ true = grind (arith, nat_tests) in
+      when_true (nat_eq p.reserves.intensity 0) _ _ t no_walk
 
-  pub intensity_asked : {c d : C} {h k : H} (p : Plan) (coded value : ℕ) (answer : ℤ) → p.reserves.choice ≢ 0 → value ≡ raised answer
+  pub intensity_asked : {c d : C} {h k : H} (p : Plan) (coded value : ℕ) (answer : ℤ) → p.reserves.intensity ≢ 0 → value ≡ raised answer
       → Walked coder chooser (asks_at (Intensity coded) (Uniform (coded + 1))) answer c h d k
       → Walked coder chooser (intensity_script p coded) value c h d k
   unfolding intensity_script
   intensity_asked {c = c} {d = d} {h = h} {k = k} p coded value answer some e w =
-      let t : nat_eq p.reserves.choice 0 ≡ false = grind (arith, nat_tests) in
-      when_false (nat_eq p.reserves.choice 0) _ _ t
+      let t : nat_eq p.reserves.intensity 0 ≡ false = grind (arith, nat_tests) in
+      when_false (nat_eq p.reserves.intensity 0) _ _ t
       (subst (λ n. Walked coder chooser (and_then (asks_at (Intensity coded) (Uniform (coded + 1))) (λ answer. Done (raised answer))) n c h d k) (sym e)
       (end (walk _ start w)))
 

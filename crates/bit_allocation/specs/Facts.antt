@@ -7,16 +7,16 @@ use Rattle.bit_allocation.specs.declared.turns.Turn.{Turn}
 use Rattle.bit_allocation.specs.declared.turns.Turn.TheVariants.{Stays, Goes}
 use Rattle.bit_allocation.specs.declared.stereo.Stereo.{Stereo}
 use Rattle.bit_allocation.specs.Counts.{sum_below}
-use Rattle.bit_allocation.specs.Scripts.{choice_now}
+use Rattle.bit_allocation.specs.Scripts.{intensity_now}
 
 abbrev pub whole_of : Reserves → ℕ
-whole_of r = r.skip + r.choice + r.dual + r.rest
+whole_of r = r.skip + r.intensity + r.dual + r.rest
 
 pub record IsPlan (p : Plan) : Type 0 where
   pub start : p.start < p.kind.end
-  pub choice : p.reserves.choice ≡ choice_now p p.kind.end
-  pub mono : p.kind.channels ≡ 1 → p.reserves.choice ≡ 0
-  pub dual : p.reserves.choice ≡ 0 → p.reserves.dual ≡ 0
+  pub intensity : p.reserves.intensity ≡ intensity_now p p.kind.end
+  pub mono : p.kind.channels ≡ 1 → p.reserves.intensity ≡ 0
+  pub dual : p.reserves.intensity ≡ 0 → p.reserves.dual ≡ 0
   pub whole : whole_of p.reserves ≤ 81600
   pub length_is : length p.bits ≡ 21
   pub fits : sum_below (slice_index p.bits) p.kind.end ≤ p.reserves.rest

@@ -11,27 +11,27 @@ use Rattle.celt_base.specs.declared.kind.Kind.{Kind}
 use Rattle.celt_tables.specs.declared.bands.TheConstants.{BAND_CHOICE_BITS}
 
 -- what the choice of one of so many bands, or none, may take
-abbrev pub choice_bits : ℕ → ℕ
-choice_bits bands = slice_index BAND_CHOICE_BITS bands
+abbrev pub intensity_bits : ℕ → ℕ
+intensity_bits bands = slice_index BAND_CHOICE_BITS bands
 
 -- One bit for the end of skipping; the choice of the first intensity band; one bit for dual stereo. Each is laid aside
 -- where it fits what is left.
 abbrev pub skip_reserve : ℕ → ℕ
 skip_reserve total = if nat_le 8 total then 8 else 0
 
-abbrev pub choice_reserve : Kind → ℕ → ℕ
-choice_reserve kind left =
-    if nat_eq kind.channels 2 && nat_le (choice_bits kind.end) left then choice_bits kind.end else 0
+abbrev pub intensity_reserve : Kind → ℕ → ℕ
+intensity_reserve kind left =
+    if nat_eq kind.channels 2 && nat_le (intensity_bits kind.end) left then intensity_bits kind.end else 0
 
 abbrev pub dual_reserve : ℕ → ℕ → ℕ
-dual_reserve choice left = if nat_lt 0 choice && nat_le 8 left then 8 else 0
+dual_reserve intensity left = if nat_lt 0 intensity && nat_le 8 left then 8 else 0
 
 unfoldable pub reserves_of : Kind → ℕ → Reserves
 reserves_of kind total =
     let skip = skip_reserve total in
-    let choice = choice_reserve kind (total - skip) in
-    let dual = dual_reserve choice (total - skip - choice) in
-    record { skip = skip; choice = choice; dual = dual; rest = total - skip - choice - dual }
+    let intensity = intensity_reserve kind (total - skip) in
+    let dual = dual_reserve intensity (total - skip - intensity) in
+    record { skip = skip; intensity = intensity; dual = dual; rest = total - skip - intensity - dual }
 
 -- the highest band with a boost, or 0
 unfoldable pub boosted_top : Request → ℕ → ℕ

@@ -8,7 +8,7 @@ use Rattle.bit_allocation.specs.declared.turns.Turn.TheVariants.{Stays, Goes}
 use Rattle.bit_allocation.specs.declared.stereo.Stereo.{Stereo}
 use Rattle.bit_allocation.specs.Amounts.{raised, bit_each, threshold_of}
 use Rattle.bit_allocation.specs.Counts.{sum_below, few}
-use Rattle.bit_allocation.specs.Plans.{choice_bits, plan_of}
+use Rattle.bit_allocation.specs.Plans.{intensity_bits, plan_of}
 use Rattle.bit_allocation.specs.Shares.{even_of, beyond_of, allocation_of}
 use Rattle.celt_base.specs.declared.coder.Place.TheVariants.{Skip, Intensity, Dual}
 use Rattle.celt_base.specs.declared.kind.Kind.{Kind}
@@ -18,13 +18,13 @@ use Rattle.celt_base.specs.WalkScripts.{Script, Done, and_then, asks_at, asks_bi
 use Rattle.celt_tables.specs.Tables.{width_of}
 
 -- what is laid aside for the choice of one of so many coded bands
-abbrev pub choice_now : Plan → ℕ → ℕ
-choice_now p coded = if nat_eq p.reserves.choice 0 then 0 else choice_bits coded
+abbrev pub intensity_now : Plan → ℕ → ℕ
+intensity_now p coded = if nat_eq p.reserves.intensity 0 then 0 else intensity_bits coded
 
--- What is left once all bands have their bits, the choice its reserve and each bit asked so far its eight.
+-- What is left once all bands have their bits, intensity its reserve and each bit asked so far its eight.
 unfoldable pub left_of : Plan → ℕ → ℕ → List ℕ → ℕ
 left_of p coded asked bits =
-    (p.reserves.rest + p.reserves.choice) - (sum_below (slice_index bits) p.kind.end + choice_now p coded + 8 * asked)
+    (p.reserves.rest + p.reserves.intensity) - (sum_below (slice_index bits) p.kind.end + intensity_now p coded + 8 * asked)
 
 -- What the highest coded band would have: its bits, its share of what is left, and what the even shares leave over.
 unfoldable pub offer_of : Plan → ℕ → ℕ → List ℕ → ℕ
@@ -61,7 +61,7 @@ skip_script p (suc band) asked bits =
 -- the first intensity band
 unfoldable pub intensity_script : Plan → ℕ → Script ℕ
 intensity_script p coded =
-    if nat_eq p.reserves.choice 0 then Done 0 else and_then (asks_at (Intensity coded) (Uniform (coded + 1))) (λ answer. Done (raised answer))
+    if nat_eq p.reserves.intensity 0 then Done 0 else and_then (asks_at (Intensity coded) (Uniform (coded + 1))) (λ answer. Done (raised answer))
 
 -- whether the bands below it are in dual stereo
 unfoldable pub dual_script : Plan → ℕ → Script Bool

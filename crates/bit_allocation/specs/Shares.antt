@@ -23,14 +23,18 @@ beyond_of left coded band = left - even_of left coded * edge_of coded - edge_of 
 unfoldable pub share_of : ℕ → ℕ → ℕ → ℕ → ℕ
 share_of bits left coded band = bits + even_of left coded * width_of band + min (beyond_of left coded band) (width_of band)
 
--- How many numbers a band's bits are for: its coefficients, and one more for a stereo band whose two channels are split
+-- How many numbers a band's bits are for (the standard's den): its coefficients, and one more for a stereo band whose two channels are split
 -- by an angle.
 abbrev pub numbers_of : Kind → Stereo → ℕ → ℕ
 numbers_of kind t band =
     coefficients_of kind band
     + (if nat_eq kind.channels 2 && nat_lt 2 (size_of kind band) && not t.dual && nat_lt band t.intensity then 1 else 0)
 
--- A band's bits, and more for bands that have many coefficients, or few bits for each number.
+-- By how many eighths of a bit the fine bits stay below the bits of a number (the standard's FINE_OFFSET).
+abbrev pub fine_offset : ℕ
+fine_offset = 21
+
+-- A band's bits, and more for bands that have many coefficients, or few bits for each number: `lift` is the standard's NClogN.
 abbrev pub logarithm_of : Kind → ℕ → ℕ
 logarithm_of kind band = slice_index WIDTH_LOGARITHMS band + 8 * kind.lm
 
@@ -39,7 +43,7 @@ raised_once size numbers lift b = b + lift / 2 + (if nat_eq size 2 then 2 * numb
 
 abbrev pub raised_twice : ℕ → ℕ → ℕ → ℕ
 raised_twice numbers lift b =
-    if nat_lt b (37 * numbers) then b + lift / 4 else (if nat_lt b (45 * numbers) then b + lift / 8 else b)
+    if nat_lt b ((fine_offset + 16) * numbers) then b + lift / 4 else (if nat_lt b ((fine_offset + 24) * numbers) then b + lift / 8 else b)
 
 unfoldable pub raised_bits : Kind → ℕ → ℕ → ℕ → ℕ
 raised_bits kind numbers band b =
@@ -48,7 +52,7 @@ raised_bits kind numbers band b =
 -- The bits of fine energy in each channel: about one for each number's eight, at most 8, and no more than there are.
 unfoldable pub fine_of : ℕ → ℕ → ℕ → ℕ → ℕ
 fine_of channels numbers raised b =
-    let fine = (raised - 17 * numbers) / (8 * numbers) in
+    let fine = (raised - (fine_offset - 4) * numbers) / (8 * numbers) in
     min (if nat_lt (b / 8) (channels * fine) then b / channels / 8 else fine) 8
 
 -- A band of more than one coefficient: what exceeds its greatest amount is left over.
@@ -61,7 +65,7 @@ wide_split kind t band bit =
     record {
       pulses = b - bit_each kind * fine;
       fine = fine;
-      priority = nat_le raised (8 * numbers * fine + 21 * numbers);
+      priority = nat_le raised (8 * numbers * fine + fine_offset * numbers);
       balance = bit - most_of kind band;
     }
 

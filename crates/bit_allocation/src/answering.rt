@@ -22,10 +22,10 @@ fn ask_intensity<C: Coder, H: Chooser>(
     requires few { C.calls.count coder.old < 4096 }
     ensures walked { Walked C.calls H.calls (intensity_script plan.now coded) result coder.old chooser.old coder.new chooser.new }
     ensures within { result ≤ coded }
-    ensures none { plan.now.reserves.choice ≡ 0 → result ≡ 0 }
+    ensures none { plan.now.reserves.intensity ≡ 0 → result ≡ 0 }
     ensures count { C.calls.count coder.new ≤ C.calls.count coder.old + 1 }
 {
-    if plan.reserves.choice == 0 {
+    if plan.reserves.intensity == 0 {
         return 0;
     }
     let at = Place::Intensity { coded };

@@ -8,7 +8,7 @@ pub struct Reserves {
     /// For the end of skipping.
     pub skip: u32,
     /// For the choice of the first intensity band.
-    pub choice: u32,
+    pub intensity: u32,
     /// For dual stereo.
     pub dual: u32,
     /// For the bands.

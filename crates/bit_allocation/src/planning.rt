@@ -4,7 +4,7 @@ ghost use Rattle.std.specs.Prelude.{◌≡◌, ◌+◌, ◌<◌, ◌≤◌, slic
 ghost use Rattle.bit_allocation.specs.Amounts.{raised};
 ghost use Rattle.bit_allocation.specs.Counts.{sum_below};
 ghost use Rattle.bit_allocation.specs.Facts.{IsPlan};
-ghost use Rattle.bit_allocation.specs.Plans.{choice_bits, skip_reserve, choice_reserve, dual_reserve, reserves_of, boosted_top, bits_of, plan_of};
+ghost use Rattle.bit_allocation.specs.Plans.{intensity_bits, skip_reserve, intensity_reserve, dual_reserve, reserves_of, boosted_top, bits_of, plan_of};
 
 use crate::bands::{Bands, between, stepped};
 use crate::counting::{Counted, count};
@@ -15,9 +15,9 @@ use celt_base::kind::Kind;
 use celt_tables::bands::BAND_CHOICE_BITS;
 
 /// What the choice of one of so many bands, or none, may take.
-pub fn choice_bits(bands: u32) -> u32
+pub fn intensity_bits(bands: u32) -> u32
     requires { bands ≤ 21 }
-    ensures value { result ≡ choice_bits bands }
+    ensures value { result ≡ intensity_bits bands }
     ensures most { result ≤ 37 }
 {
     BAND_CHOICE_BITS[bands as usize]
@@ -32,11 +32,11 @@ fn skip_reserve(total: u32) -> u32
 }
 
 // What the choice of the first intensity band may take.
-fn choice_reserve(kind: Kind, left: u32) -> u32
-    ensures value { result ≡ choice_reserve kind left }
+fn intensity_reserve(kind: Kind, left: u32) -> u32
+    ensures value { result ≡ intensity_reserve kind left }
     ensures within { result ≤ left }
 {
-    let bits = choice_bits(u32::from(kind.end));
+    let bits = intensity_bits(u32::from(kind.end));
     if kind.channels == 2 && bits <= left {
         bits
     } else {
@@ -45,11 +45,11 @@ fn choice_reserve(kind: Kind, left: u32) -> u32
 }
 
 // One bit for dual stereo.
-fn dual_reserve(choice: u32, left: u32) -> u32
-    ensures value { result ≡ dual_reserve choice left }
+fn dual_reserve(intensity: u32, left: u32) -> u32
+    ensures value { result ≡ dual_reserve intensity left }
     ensures within { result ≤ left }
 {
-    if choice > 0 && left >= 8 { 8 } else { 0 }
+    if intensity > 0 && left >= 8 { 8 } else { 0 }
 }
 
 // What is laid aside of the total.
@@ -57,13 +57,13 @@ fn reserves(kind: Kind, total: u32) -> Reserves
     ensures { result ≡ reserves_of kind total }
 {
     let skip = skip_reserve(total);
-    let choice = choice_reserve(kind, total - skip);
-    let dual = dual_reserve(choice, total - skip - choice);
+    let intensity = intensity_reserve(kind, total - skip);
+    let dual = dual_reserve(intensity, total - skip - intensity);
     Reserves {
         skip,
-        choice,
+        intensity,
         dual,
-        rest: total - skip - choice - dual,
+        rest: total - skip - intensity - dual,
     }
 }
 

@@ -2,7 +2,7 @@
 ghost use Rattle.std.specs.Prelude.{◌≡◌, ◌+◌, ◌-◌, ◌*◌, ◌<◌, ◌≤◌, slice_index};
 ghost use Rattle.bit_allocation.specs.Counts.{sum_below};
 ghost use Rattle.bit_allocation.specs.Facts.{IsPlan, IsTurn, IsSkipped};
-ghost use Rattle.bit_allocation.specs.Scripts.{choice_now, turn_script, skip_script};
+ghost use Rattle.bit_allocation.specs.Scripts.{intensity_now, turn_script, skip_script};
 ghost use Rattle.bit_allocation.specs.Shares.{even_of, beyond_of};
 ghost use Rattle.celt_base.specs.Walks.{Walked};
 ghost use Rattle.celt_tables.specs.Tables.{width_of};
@@ -11,33 +11,33 @@ use crate::amounts::each;
 use crate::bands::Bands;
 use crate::counting::few;
 use crate::plan::Plan;
-use crate::planning::{Planned, choice_bits};
+use crate::planning::{Planned, intensity_bits};
 use crate::turns::{Skipped, Turn};
 use celt_base::coder::{Chooser, Coder, Place};
 use celt_base::walk::ask_bit;
 use celt_tables::{edge, width};
 
 // What is laid aside for the choice of one of so many coded bands.
-fn choice_now(plan: &Plan, coded: u32) -> u32
+fn intensity_now(plan: &Plan, coded: u32) -> u32
     requires { coded ≤ 21 }
-    ensures value { result ≡ choice_now plan.now coded }
+    ensures value { result ≡ intensity_now plan.now coded }
     ensures most { result ≤ 37 }
 {
-    if plan.reserves.choice == 0 {
+    if plan.reserves.intensity == 0 {
         0
     } else {
-        choice_bits(coded)
+        intensity_bits(coded)
     }
 }
 
 // What is left where all bands have so many bits.
 fn left(plan: &Plan, coded: u32, used: u32) -> u32
     requires coded { coded ≤ 21 }
-    requires fits { used + choice_now plan.now coded ≤ plan.now.reserves.rest + plan.now.reserves.choice }
-    requires whole { plan.now.reserves.rest + plan.now.reserves.choice ≤ 81600 }
-    ensures { result ≡ (plan.now.reserves.rest + plan.now.reserves.choice) - (used + choice_now plan.now coded) }
+    requires fits { used + intensity_now plan.now coded ≤ plan.now.reserves.rest + plan.now.reserves.intensity }
+    requires whole { plan.now.reserves.rest + plan.now.reserves.intensity ≤ 81600 }
+    ensures { result ≡ (plan.now.reserves.rest + plan.now.reserves.intensity) - (used + intensity_now plan.now coded) }
 {
-    plan.reserves.rest + plan.reserves.choice - (used + choice_now(plan, coded))
+    plan.reserves.rest + plan.reserves.intensity - (used + intensity_now(plan, coded))
 }
 
 // What the highest coded band would have.

@@ -10,6 +10,9 @@ use celt_base::kind::Kind;
 use celt_tables::bands::WIDTH_LOGARITHMS;
 use celt_tables::{coefficients, edge, size, width};
 
+/// By how many eighths of a bit the fine bits stay below the bits of a number.
+const FINE_OFFSET: u32 = 21;
+
 /// The bits of a band.
 #[derive(Clone, Copy)]
 pub struct Split {
@@ -86,9 +89,9 @@ fn raised_twice(numbers: u32, lift: u32, bits: u32) -> u32
     ensures value { result ≡ raised_twice numbers lift bits }
     ensures most { result ≤ 50000 }
 {
-    if bits < 37 * numbers {
+    if bits < (FINE_OFFSET + 16) * numbers {
         bits + lift / 4
-    } else if bits < 45 * numbers {
+    } else if bits < (FINE_OFFSET + 24) * numbers {
         bits + lift / 8
     } else {
         bits
@@ -118,7 +121,7 @@ fn fine(kind: Kind, numbers: u32, raised: u32, bits: u32) -> u32
     ensures within { bit_each kind * result ≤ bits }
 {
     let channels = u32::from(kind.channels);
-    let fine = raised.saturating_sub(17 * numbers) / (8 * numbers);
+    let fine = raised.saturating_sub((FINE_OFFSET - 4) * numbers) / (8 * numbers);
     if channels * fine > bits / 8 {
         return (bits / channels / 8).min(8);
     }
@@ -142,7 +145,7 @@ fn wide_split(bands: &Bands, stereo: Stereo, band: u32, bits: u32) -> Split
     Split {
         pulses: kept - bit * fine,
         fine,
-        priority: raised <= 8 * numbers * fine + 21 * numbers,
+        priority: raised <= 8 * numbers * fine + FINE_OFFSET * numbers,
         balance: bits.saturating_sub(most),
     }
 }

@@ -1,5 +1,5 @@
 //! The symbols of a frame: what its questions came to, and the list of its questions with their answers.
-ghost use Rattle.std.specs.Prelude.{◌≡◌, ◌*◌, ◌≤◌, vec_capacity};
+ghost use Rattle.std.specs.Prelude.{◌≡◌, ◌*◌, ◌≤◌, [], IfOk, vec_capacity};
 ghost use Rattle.frame_symbols.specs.Openings.{IsPostFilter};
 
 use crate::fields::Fields;
@@ -38,6 +38,17 @@ fn setting_of(post_filter: PostFilter) -> Setting
     }
 }
 
+// Room for the answers of a frame, and for no more.
+fn answers_room(alloc: Global) -> Result<Vec<Answer>, OutOfMemory>
+    ensures empty { IfOk result (λ list. list.items ≡ []) }
+    ensures reserved { IfOk result (λ list. vec_capacity list ≡ 4096) }
+{
+    match Vec::with_capacity(alloc, 4096) {
+        Ok(list) => Ok(list),
+        Err(_) => Err(OutOfMemory),
+    }
+}
+
 impl Symbols {
     ghost use Rattle.std.specs.Prelude.{◌≡◌, ◌*◌, ◌≤◌, IfOk};
     ghost use Rattle.frame_symbols.specs.HeldSymbols.{AreNew};
@@ -46,16 +57,16 @@ impl Symbols {
     pub fn new(alloc: Global) -> Result<Symbols, OutOfMemory>
         ensures { IfOk result AreNew }
     {
-        match Vec::with_capacity(alloc, 4096) {
-            Ok(list) => Ok(Symbols {
-                list,
-                kind: None,
-                fields: Fields::new(),
-                range: 0,
-                tell: 0,
-            }),
-            Err(_) => Err(OutOfMemory),
-        }
+        let Ok(list) = answers_room(alloc) else {
+            return Err(OutOfMemory);
+        };
+        Ok(Symbols {
+            list,
+            kind: None,
+            fields: Fields::new(),
+            range: 0,
+            tell: 0,
+        })
     }
 
     /// The questions of the frame with their answers.

@@ -80,7 +80,7 @@ fn faults_are_answered_again(rt: HostRuntime) -> Result<(), OutOfMemory> {
     for _ in 0..2 {
         assert!(rt; matches!(reader.next_page(), Step::Fault(PageFault::BadChecksum)));
     }
-    // A whole page whose first bytes are those of a page of 65307 bytes.
+    // Less than a page, and no test is broken so far.
     let mut reader = fed(alloc, &[0x4f])?;
     assert!(rt; matches!(reader.next_page(), Step::Need));
     assert!(rt; matches!(page_at(&[]), Step::Need));

@@ -70,7 +70,7 @@ pub fn length_of(table: TableId, place: u32) -> u32
 
 /// An answer with the part that it has.
 #[derive(Clone, Copy, Debug)]
-struct Place {
+struct TablePart {
     /// The answer, counted from 0.
     answer: u32,
     /// Where its part begins.
@@ -80,7 +80,7 @@ struct Place {
 }
 
 /// The place of a table that has the value.
-fn place_in(table: TableId, total: u32, value: u32) -> Place
+fn place_in(table: TableId, total: u32, value: u32) -> TablePart
     requires total { total ≡ total_of table }
     requires below { value < total }
     ensures answer { result.answer < answers_of table }
@@ -97,7 +97,7 @@ fn place_in(table: TableId, total: u32, value: u32) -> Place
         from = to;
         to = (from + length_of(table, answer)).min(total);
     }
-    Place { answer, from, to }
+    TablePart { answer, from, to }
 }
 
 /// A place in a table.
