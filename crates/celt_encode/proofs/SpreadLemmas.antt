@@ -1,20 +1,48 @@
 -- Energies of bands, and their small coefficients.
-use Rattle.std.proofs.Common.{◌≡◌, ℕ, zero, suc, ◌+◌, ◌*◌, ◌^◌, ◌<◌, ◌≤◌, refl, sym, ap, ◌∙◌, arith, List, [], length, take, Bool, true, false, if◌then◌else◌}
-use Rattle.std.specs.Prelude.{ℤ, unsigned_abs, All, nat_le}
+use Rattle.std.proofs.Common.{◌≡◌, ℕ, zero, suc, ◌+◌, ◌-◌, ◌/◌, ◌*◌, ◌^◌, ◌<◌, ◌≤◌, refl, sym, ap, subst, inl, inr, get_or, ◌∙◌, arith, List, [], length, take, Bool, true, false, if◌then◌else◌}
+use Rattle.std.specs.Prelude.{ℤ, pos, unsigned_abs, All, nat_le}
 use Rattle.std.proofs.lemmas.Bool.Decides.{nat_tests}
 use Rattle.std.proofs.lemmas.List.{take_all, drop_all}
 use Rattle.celt_base.specs.declared.kind.Kind.{Kind}
 use Rattle.celt_tables.specs.Tables.{size_of}
 use Rattle.celt_encode.specs.Spreads.{small_in, over_bands}
 use Rattle.celt_encode.specs.Units.{start_of, band_of}
+use Rattle.std.proofs.lemmas.Bool.{cases_lt}
+use Rattle.std.proofs.lemmas.Nat.{mul-le, div_below}
+use Rattle.std.proofs.lemmas.List.Sums.{get_or-le-sum_by}
 use Rattle.std.proofs.lemmas.List.Elements.{All-weaker}
-use Rattle.fixed_math.specs.Unit.{energy}
+use Rattle.fixed_math.specs.Unit.{energy, square}
 use Rattle.fixed_math.proofs.UnitLemmas.{energy_within}
 
 pub energy_most : (xs : List ℤ) → length xs ≤ 176 → All (λ x. unsigned_abs x < 2 ^ 38) xs → energy xs ≤ 2 ^ 84
 energy_most xs l h =
     let e : energy xs ≤ 176 * (2 ^ 38 * 2 ^ 38) = energy_within xs (2 ^ 38) l (All-weaker (λ x. unsigned_abs x < 2 ^ 38) (λ x. unsigned_abs x ≤ 2 ^ 38) (λ x p. omega (arith, p)) xs h) in
     omega (arith, e)
+
+-- a part, rounded up
+pub part_most : (e p : ℕ) → 1 ≤ p → (e + p - 1) / p ≤ e
+part_most e p l =
+    let m : e * 1 ≤ e * p = mul-le e 1 e p (omega arith) l in
+    let q : (e + p - 1) / p < e + 1 = div_below (e + p - 1) p (e + 1) l (subst (λ n. e + p - 1 < n) (more e p) (below e p (e * p) m l)) in
+    omega (arith, q)
+  where
+    below : (e p m : ℕ) → e * 1 ≤ m → 1 ≤ p → e + p - 1 < m + p
+    below e p m h l = omega (arith, h, l)
+
+    more : (e p : ℕ) → e * p + p ≡ (e + 1) * p
+    more e p = omega arith
+
+-- an item of a band with little energy
+pub narrow_item : (xs : List ℤ) (i : ℕ) → i < length xs → energy xs < 2 ^ 62 → unsigned_abs (get_or xs i (pos 0)) < 2 ^ 31
+narrow_item xs i l h =
+    let x : ℕ = unsigned_abs (get_or xs i (pos 0)) in
+    elim (cases_lt x (2 ^ 31)) [
+      | inl a ↦ a
+      | inr a ↦
+          let s : 2 ^ 31 * 2 ^ 31 ≤ x * x = mul-le (2 ^ 31) (2 ^ 31) x x a a in
+          let m : x * x ≤ energy xs = get_or-le-sum_by square xs i (pos 0) l in
+          absurd (omega (arith, s, m, h))
+    ]
 
 -- the counts of the first n bands
 pub record CountsTo (kind : Kind) (spectrum : List ℤ) (all small n : ℕ) : Type 0 where

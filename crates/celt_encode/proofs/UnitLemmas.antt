@@ -2,7 +2,7 @@
 use Rattle.std.proofs.Common.{◌⊎◌, Bool, true, false, if◌then◌else◌, nat_lt, ◌≡◌, ℕ, zero, suc, ◌+◌, ◌-◌, ◌*◌, ◌^◌, ◌<◌, ◌≤◌, refl, sym, ap, subst, arith, ◌∙◌, inl, inr, List, [], ◌∷◌, ◌++◌, length, take, length-take}
 use Rattle.std.specs.Prelude.{ℤ, pos, unsigned_abs, All, replicate, nat_le, slice_set, Option, Some}
 use Rattle.std.proofs.lemmas.Nat.{mul-le}
-use Rattle.std.proofs.lemmas.List.{take_all, drop_all}
+use Rattle.std.proofs.lemmas.List.{take_all, drop_all, append-nil, append_assoc, replicate-append-replicate}
 use Rattle.std.proofs.lemmas.List.Elements.{All-append}
 use Rattle.std.proofs.Math.Nat.{pow-le-pow_right}
 use Rattle.celt_base.specs.declared.kind.Kind.{Kind}
@@ -139,3 +139,36 @@ pub pairs_next : (f : ℤ → ℤ → ℕ) (l r : List ℤ) (n s v : ℕ) → s 
 pairs_next f l r n s v es ev =
     let at : 0 + n ≡ n = omega arith in
     (λ k. es k + ev k) ∙ ap (λ p. over_pairs f l r n + f (item l p) (item r p)) (sym at) ∙ sym (sum_from-more (λ p. f (item l p) (item r p)) 0 n)
+
+-- ---- a row that is cleared from a place on, as far as another place
+pub record Cleared (old row : List ℤ) (at from : ℕ) : Type 0 where
+  pub count : length row ≡ length old
+  pub behind : at ≤ from
+  pub within : from ≤ length old
+  pub front : take from row ≡ take at old ++ replicate (from - at) (pos 0)
+
+pub cleared_first : (old : List ℤ) (at : ℕ) → at ≤ length old → Cleared old old at at
+cleared_first old at l =
+    let none : at - at ≡ 0 = omega arith in
+    record {
+      count = refl;
+      behind = omega arith;
+      within = l;
+      front = sym (append-nil (take at old)) ∙ ap (λ n. take at old ++ replicate n (pos 0)) (sym none);
+    }
+
+pub cleared_next : (old row new : List ℤ) (at from n : ℕ) → from + n ≤ length row → take (from + n) new ≡ take from row ++ replicate n (pos 0) → length new ≡ length row → Cleared old row at from → Cleared old new at (from + n)
+cleared_next old row new at from n l f len h =
+    let more : from - at + n ≡ from + n - at = omega (arith, h.behind) in
+    record {
+      count = len ∙ h.count;
+      behind = omega (arith, h.behind);
+      within = omega (arith, l, h.count);
+      front = f ∙ ap (λ z. z ++ replicate n (pos 0)) h.front ∙ append_assoc (take at old) (replicate (from - at) (pos 0)) (replicate n (pos 0))
+          ∙ ap (λ z. take at old ++ z) (replicate-append-replicate (from - at) n (pos 0) ∙ ap (λ k. replicate k (pos 0)) more);
+    }
+
+pub cleared_whole : (old row : List ℤ) (at from : ℕ) → length row ≤ from → Cleared old row at from → row ≡ take at old ++ replicate (length old - at) (pos 0)
+cleared_whole old row at from l h =
+    let all : from - at ≡ length old - at = omega (arith, h.within, h.count, l) in
+    sym (take_all from row l) ∙ h.front ∙ ap (λ k. take at old ++ replicate k (pos 0)) all

@@ -14,8 +14,8 @@ fn square(x: i64) -> u128
     ensures value { result ≡ squared x }
     ensures most { result ≤ 2 ^ 76 }
 {
-    let size = x.unsigned_abs() as u128;
-    size * size
+    let wide = x as i128;
+    (wide * wide) as u128
 }
 
 // The sum of the squares.
@@ -37,7 +37,8 @@ fn part_of(energy: u128, parts: u128) -> u128
     requires energy { energy ≤ 2 ^ 84 }
     requires some { 1 ≤ parts }
     requires parts { parts ≤ 2 ^ 12 }
-    ensures { (n : ℕ) → nat_lt (parts * n) energy ≡ nat_lt n result }
+    ensures value { (n : ℕ) → nat_lt (parts * n) energy ≡ nat_lt n result }
+    ensures most { result ≤ energy }
 {
     (energy + parts - 1) / parts
 }
@@ -58,6 +59,31 @@ fn squares_below(band: &[i64], bound: u128) -> u32
     count
 }
 
+// The square of a number of 32 bits.
+fn narrow_square(x: i64) -> u64
+    requires { unsigned_abs x < 2 ^ 31 }
+    ensures { result ≡ squared x }
+{
+    let narrow = (x as i32) as i64;
+    (narrow * narrow) as u64
+}
+
+// The same where the energy is below 2^62.
+fn narrow_squares_below(band: &[i64], bound: u64) -> u32
+    requires count { length band.now ≤ 176 }
+    requires energy { energy band.now < 2 ^ 62 }
+    ensures value { result ≡ count_by (λ x. nat_lt (squared x) bound) band.now }
+    ensures most { result ≤ length band.now }
+{
+    let mut count = 0;
+    for i in 0..band.len() {
+        if narrow_square(band[i]) < bound {
+            count += 1;
+        }
+    }
+    count
+}
+
 // How many of a band's coefficients are small.
 fn small_count(band: &[i64]) -> u32
     requires some { 1 ≤ length band.now }
@@ -66,8 +92,13 @@ fn small_count(band: &[i64]) -> u32
     ensures value { result ≡ small_in band.now }
     ensures most { result ≤ length band.now }
 {
-    let bound = part_of(energy_of(band), 16 * band.len() as u128);
-    squares_below(band, bound)
+    let energy = energy_of(band);
+    let bound = part_of(energy, 16 * band.len() as u128);
+    if energy < 0x4000_0000_0000_0000 {
+        narrow_squares_below(band, bound as u64)
+    } else {
+        squares_below(band, bound)
+    }
 }
 
 /// How many coefficients there are, and how many of them are small.

@@ -75,13 +75,28 @@ fn put_bands(row: &mut [i64], kind: Kind, spectrum: &[i64])
     }
 }
 
-// Writes 0 from place `at` on.
+// Writes `n` times 0 from place `at` on.
+fn clear(row: &mut [i64], at: usize, n: usize)
+    requires { at + n ≤ length row.old }
+    ensures front { take (at + n) row.new ≡ take at row.old ++ replicate n (pos 0) }
+    ensures length { length row.new ≡ length row.old }
+{
+    let (_, behind) = row.split_at_mut(at);
+    let (here, _) = behind.split_at_mut(n);
+    here.fill(0);
+}
+
+// Writes 0 from place `at` on. Short pieces are cleared by wide registers.
 fn clear_from(row: &mut [i64], at: usize)
     requires { at ≤ length row.old }
     ensures { row.new ≡ take at row.old ++ replicate (length row.old - at) (pos 0) }
 {
-    let (_, behind) = row.split_at_mut(at);
-    behind.fill(0);
+    let mut from = at;
+    while from < row.len() {
+        let n = (row.len() - from).min(200);
+        clear(row, from, n);
+        from += n;
+    }
 }
 
 // Writes a channel's vectors, and 0 behind them.
