@@ -3,6 +3,7 @@ pub mod ChannelLemmas
 pub mod EnergyLemmas
 pub mod EstimateLemmas
 pub mod FillLemmas
+pub mod InputLemmas
 pub mod KaratsubaLemmas
 pub mod LaneLemmas
 pub mod MeasureLemmas

@@ -1,18 +1,19 @@
 -- Pre-emphasis and the pre-filter.
-use Rattle.std.proofs.Common.{◌≡◌, ℕ, zero, suc, ◌+◌, ◌-◌, ◌*◌, ◌^◌, ◌<◌, ◌≤◌, sym, inl, inr, arith, ap, ◌∙◌, List, length, ◌++◌, nat_lt, true, false}
-use Rattle.std.specs.Prelude.{ℤ, pos, negsuc, ◌+ℤ◌, ◌-ℤ◌, ◌*ℤ◌, unsigned_abs, FitsSigned, take}
+use Rattle.std.proofs.Common.{◌≡◌, ℕ, zero, suc, ◌+◌, ◌-◌, ◌*◌, ◌^◌, ◌<◌, ◌≤◌, sym, subst, inl, inr, arith, ap, ◌∙◌, List, length, ◌++◌, nat_lt, true, false}
+use Rattle.std.specs.Prelude.{ℤ, pos, negsuc, ◌+ℤ◌, ◌-ℤ◌, ◌*ℤ◌, unsigned_abs, FitsSigned, take, drop, All}
 use Rattle.std.specs.Int.{int_shr, w16, w32, w64}
 use Rattle.std.proofs.lemmas.Int.{ints, fits_signed_from_abs}
 use Rattle.std.proofs.lemmas.Bool.{cases_lt}
 use Rattle.std.proofs.lemmas.Bool.Decides.{nat_tests}
-use Rattle.std.proofs.lemmas.List.{get_or_append_left, get_or-append_right, length-append, take_at}
+use Rattle.std.proofs.lemmas.List.{get_or_append_left, get_or-append_right, length-append, take_at, length-drop, length-take-le, get_or-take, get_or-drop}
+use Rattle.std.proofs.lemmas.List.Elements.{All-take, All-drop}
 use Rattle.fixed_math.specs.Items.{item, listed}
 use Rattle.fixed_math.specs.Rounding.{rounded}
 use Rattle.fixed_math.proofs.RoundingLemmas.{shr_scaled}
 use Rattle.fixed_math.proofs.ItemLemmas.{item-listed, length-listed, listed_from}
 use Rattle.celt_base.specs.declared.state.Setting.{Setting}
 use Rattle.post_filter.specs.Comb.{term}
-use Rattle.post_filter.proofs.EchoLemmas.{term_same}
+use Rattle.post_filter.proofs.EchoLemmas.{term_same, term_silent}
 use Rattle.celt_analysis.specs.Signals.{emphasized, filtered, filtered_from, setting_of, value_at, values_in}
 
 pub fits_short : (z : ℤ) → FitsSigned w16 z → unsigned_abs z ≤ 2 ^ 15
@@ -133,3 +134,22 @@ values_made n k settings x ps xs ys ek ep ex =
     ap (λ zs. item zs t) ex ∙ item-listed k (value_at (k - 120) settings (item ps)) t here
     ∙ ap (λ j. value_at j settings (item ps) t) back
     ∙ value_same n settings (item ps) (emphasized x) t l (λ j b. ap (λ zs. item zs j) ep ∙ item-listed (1145 + n) (emphasized x) j b))
+
+-- where both settings are off the values stay
+pub copied_values : (from to : Setting) (i : ℕ) (ps : List ℤ) (at n : ℕ) (xs : List ℤ) → from.gain ≡ 0 → to.gain ≡ 0 → 1024 ≤ at → at + n ≤ length ps
+    → xs ≡ take n (drop at ps) → xs ≡ listed n (filtered_from from to i (item ps) at)
+copied_values from to i ps at n xs ef et far room e =
+    let behind : n ≤ length (drop at ps) = subst (λ k. n ≤ k) (sym (length-drop at ps)) (omega (arith, room)) in
+    let whole : length xs ≡ n = ap length e ∙ length-take-le n (drop at ps) behind in
+    listed_from xs n (filtered_from from to i (item ps) at) whole (λ t l.
+    let far_on : 1024 ≤ at + t = omega (arith, far) in
+    ap (λ zs. item zs t) e ∙ get_or-take n (drop at ps) t (pos 0) l ∙ get_or-drop at ps t (pos 0)
+    ∙ whole_of (item ps (at + t)) ∙ sym (ap (λ z. item ps (at + t) -ℤ z) (term_silent from to (i + t) ps (at + t) ef et)) ∙ filtered_is from to (i + t) ps (at + t) far_on)
+  where
+    whole_of : (z : ℤ) → z ≡ z -ℤ pos 0
+    whole_of z = omega (arith, ints)
+
+pub copied_sizes : (ps : List ℤ) (at n : ℕ) (xs : List ℤ) → xs ≡ take n (drop at ps) → All (λ v. unsigned_abs v < 2 ^ 28) ps → All (λ v. unsigned_abs v < 2 ^ 29) xs
+copied_sizes ps at n xs e h =
+    let small : All (λ v. unsigned_abs v < 2 ^ 28) xs = subst (All (λ v. unsigned_abs v < 2 ^ 28)) (sym e) (All-take (λ v. unsigned_abs v < 2 ^ 28) n (drop at ps) (All-drop (λ v. unsigned_abs v < 2 ^ 28) at ps h)) in
+    λ k d l. omega (arith, small k d l)

@@ -2,7 +2,7 @@
 use Rattle.std.proofs.Common.{◌≡◌, ℕ, suc, ◌+◌, ◌*◌, ◌^◌, ◌<◌, ◌≤◌, Bool, true, false, ◌||◌, nat_lt, refl, sym, subst, arith, ap, ◌∙◌, List}
 use Rattle.std.proofs.lemmas.Bool.Decides.{nat_tests}
 use Rattle.std.specs.Prelude.{◌&&◌, ℤ, ◌*ℤ◌, unsigned_abs, FitsSigned}
-use Rattle.std.specs.Int.{int_shr, w64}
+use Rattle.std.specs.Int.{int_shr, w32, w64}
 use Rattle.std.proofs.lemmas.Int.{fits_signed_from_abs, unsigned_abs-mul}
 use Rattle.std.proofs.lemmas.Nat.{mul-le}
 use Rattle.fixed_math.proofs.RoundingLemmas.{shr_scaled}
@@ -14,6 +14,7 @@ use Rattle.celt_analysis.specs.Transients.{block_energy, energies_in, is_transie
 pub record SquareSteps (v : ℤ) : Type 0 where
   pub v_fits : FitsSigned w64 v
   pub whole : FitsSigned w64 (int_shr v 12)
+  pub narrow : FitsSigned w32 (int_shr v 12)
   pub square : FitsSigned w64 (int_shr v 12 *ℤ int_shr v 12)
   pub size : unsigned_abs (int_shr v 12 *ℤ int_shr v 12) ≤ 2 ^ 34
 
@@ -24,6 +25,7 @@ square_steps v h =
     record {
       v_fits = fits_signed_from_abs w64 _ (omega arith);
       whole = fits_signed_from_abs w64 _ (omega arith);
+      narrow = fits_signed_from_abs w32 _ (omega arith);
       square = fits_signed_from_abs w64 _ (omega arith);
       size = s;
     }

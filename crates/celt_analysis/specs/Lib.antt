@@ -2,6 +2,7 @@ pub mod Analyses
 pub mod Batches
 pub mod Channels
 pub mod Energies
+pub mod Inputs
 pub mod Pitch
 pub mod Search
 pub mod Signals

@@ -10,6 +10,7 @@ mod emphasis;
 mod energies;
 mod estimate;
 mod karatsuba;
+mod laws;
 mod measures;
 mod pitch_laws;
 #[cfg(test)]
@@ -27,6 +28,7 @@ mod transients;
 
 pub use analysis::{Analysis, analyse};
 pub use batch::{WindowSlot, analyse_batch, pitch_batch};
+pub use laws::law_window;
 pub use pitch_laws::{law_best_lag, law_pitch};
 pub use pitches::pitch;
 pub use slide::Slide;

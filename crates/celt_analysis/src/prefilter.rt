@@ -1,5 +1,5 @@
 //! The pre-filter, which the decoder's comb filter undoes (RFC 6716, section 4.3.7.1).
-ghost use Rattle.std.specs.Prelude.{◌≡◌, ◌+◌, ◌-◌, ◌^◌, ◌<◌, ◌≤◌, unsigned_abs, length, All};
+ghost use Rattle.std.specs.Prelude.{◌≡◌, ◌+◌, ◌-◌, ◌^◌, ◌<◌, ◌≤◌, true, take, drop, unsigned_abs, length, All};
 ghost use Rattle.fixed_math.specs.Items.{item, listed};
 ghost use Rattle.celt_analysis.specs.Signals.{filtered_from, value_at};
 
@@ -37,6 +37,42 @@ pub fn prefilter(emphasized: &[i64], settings: &[Setting; 3], out: &mut [i64])
 
 // Filters the values from place `at` on, which are those from place `fade` on of the fade between two settings.
 fn filter_from(p: &[i64], at: usize, fade: usize, from: Setting, to: Setting, out: &mut [i64])
+    requires start { 1024 ≤ at }
+    requires fade { fade + length out.old ≤ 960 }
+    requires room { at + length out.old ≤ length p.now }
+    requires values { All (λ v. unsigned_abs v < 2 ^ 28) p.now }
+    ensures value { out.new ≡ listed (length out.old) (filtered_from from to fade (item p.now) at) }
+    ensures sizes { All (λ v. unsigned_abs v < 2 ^ 29) out.new }
+{
+    if are_off(from, to) {
+        copy_from(p, at, out);
+        return;
+    }
+    subtract_from(p, at, fade, from, to, out);
+}
+
+// Whether both settings are off.
+fn are_off(from: Setting, to: Setting) -> bool
+    ensures { result ≡ true → (from.gain ≡ 0) × (to.gain ≡ 0) }
+{
+    if from.gain != 0 {
+        return false;
+    }
+    to.gain == 0
+}
+
+// Copies the values from place `at` on.
+fn copy_from(p: &[i64], at: usize, out: &mut [i64])
+    requires { at + length out.old ≤ length p.now }
+    ensures { out.new ≡ take (length out.old) (drop at p.now) }
+{
+    let (_, behind) = p.split_at(at);
+    let (values, _) = behind.split_at(out.len());
+    out.copy_from_slice(values);
+}
+
+// The same where a setting is on.
+fn subtract_from(p: &[i64], at: usize, fade: usize, from: Setting, to: Setting, out: &mut [i64])
     requires start { 1024 ≤ at }
     requires fade { fade + length out.old ≤ 960 }
     requires room { at + length out.old ≤ length p.now }

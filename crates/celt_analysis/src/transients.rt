@@ -7,13 +7,13 @@ ghost use Rattle.celt_analysis.specs.Transients.{block_energy, energies_in, rise
 /// The values of a block.
 const BLOCK: usize = 120;
 
-// The square of a value in whole samples.
+// The square of a value in whole samples. It is narrowed first, so that the product is one of 32 bits by 32.
 fn square(value: i64) -> u64
     requires { unsigned_abs value < 2 ^ 29 }
     ensures value { result ≡ squared (int_shr value 12) }
     ensures size { result ≤ 2 ^ 34 }
 {
-    let whole = value >> 12;
+    let whole = ((value >> 12) as i32) as i64;
     (whole * whole) as u64
 }
 

@@ -7,5 +7,6 @@ returns-clause-size c =
     let t = square_steps c.args.value c.requires in
     let v = t.v_fits in
     let w = t.whole in
+    let n = t.narrow in
     let s = t.square in
     simp to_z-of_z t.size
