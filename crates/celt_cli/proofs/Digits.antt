@@ -1,11 +1,13 @@
 -- A number read digit by digit.
 use Rattle.std.proofs.Common.{◌≡◌, ℕ, ◌+◌, ◌-◌, ◌*◌, ◌^◌, ◌<◌, ◌≤◌, true, false, List, ◌∷◌, length, drop, refl, sym, ◌∙◌, ap, arith, slice_index, Some, None, ◌⊎◌, inl, inr, nat_le}
-use Rattle.std.specs.Prelude.{if◌then◌else◌}
-use Rattle.std.proofs.lemmas.Bool.{and_from, and_left, and_right, le-leb, lt-leb}
+use Rattle.std.specs.Prelude.{if◌then◌else◌, Bool, ◌&&◌, []}
+use Rattle.std.specs.List.{fold, list_all}
+use Rattle.std.proofs.lemmas.Bool.{and_from, and_left, and_right, le-leb, lt-leb, leb-true}
 use Rattle.std.proofs.Math.Nat.{pow-le-pow_right}
 use Rattle.std.proofs.lemmas.Nat.{pow-add}
 use Rattle.std.proofs.lemmas.List.{drop_more, drop_all}
 use Rattle.celt_cli.specs.Words.{is_digit, number_from, number_in}
+use Rattle.celt_cli.specs.Spellings.{with_digit, digits_value}
 
 -- the first digits of at most ten were read
 pub record Counted (text : List ℕ) (next number : ℕ) : Type 0 where
@@ -63,3 +65,35 @@ pub in_length : (text : List ℕ) → 1 ≤ length text → length text ≤ 10 �
 unfolding number_in
 in_length text some short =
     ap (λ t. if t then number_from 0 text else None) (and_from (nat_le 1 (length text)) (nat_le (length text) 10) (le-leb 1 (length text) some) (le-leb (length text) 10 short))
+
+-- ---- ALL DIGITS
+
+all_read : (number : ℕ) (text : List ℕ) → list_all is_digit text ≡ true → number_from number text ≡ Some (fold with_digit number text)
+unfolding number_from
+all_read number [] h = refl
+all_read number (code ∷ text) h = by (is_digit code) refl (λ n g. all_read n text g) h where
+  by : (b : Bool) → is_digit code ≡ b → ((n : ℕ) → list_all is_digit text ≡ true → number_from n text ≡ Some (fold with_digit n text)) → (b && list_all is_digit text) ≡ true
+      → (if is_digit code then number_from (10 * number + (code - 48)) text else None) ≡ Some (fold with_digit number (code ∷ text))
+  by true e again g = ap (λ t. if t then number_from (10 * number + (code - 48)) text else None) e ∙ again (10 * number + (code - 48)) g
+  by false e again g = cc
+
+all_digits : (number : ℕ) (text : List ℕ) (n : ℕ) → number_from number text ≡ Some n → list_all is_digit text ≡ true
+unfolding number_from
+all_digits number [] n h = refl
+all_digits number (code ∷ text) n h = by (is_digit code) refl (λ m g. all_digits m text n g) h where
+  by : (b : Bool) → is_digit code ≡ b → ((m : ℕ) → number_from m text ≡ Some n → list_all is_digit text ≡ true) → (if b then number_from (10 * number + (code - 48)) text else None) ≡ Some n
+      → (is_digit code && list_all is_digit text) ≡ true
+  by true e again g = ap (λ t. t && list_all is_digit text) e ∙ again (10 * number + (code - 48)) g
+  by false e again g = cc
+
+pub digits_read : (text : List ℕ) → 1 ≤ length text → length text ≤ 10 → list_all is_digit text ≡ true → number_in text ≡ Some (digits_value text)
+digits_read text some short h = in_length text some short ∙ all_read 0 text h
+
+pub only_digits : (text : List ℕ) (n : ℕ) → number_in text ≡ Some n → (1 ≤ length text) × (length text ≤ 10) × (list_all is_digit text ≡ true)
+unfolding number_in
+only_digits text n h = by (nat_le 1 (length text)) refl (nat_le (length text) 10) refl h where
+  by : (a : Bool) → nat_le 1 (length text) ≡ a → (b : Bool) → nat_le (length text) 10 ≡ b → (if a && b then number_from 0 text else None) ≡ Some n
+      → (1 ≤ length text) × (length text ≤ 10) × (list_all is_digit text ≡ true)
+  by true e true f g = (leb-true 1 (length text) e, leb-true (length text) 10 f, all_digits 0 text n g)
+  by true e false f g = cc
+  by false e b f g = cc

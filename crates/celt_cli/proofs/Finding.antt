@@ -1,5 +1,5 @@
 -- What clap's parse of a command of options says, as options that the words write.
-use Rattle.std.proofs.Common.{◌≡◌, ℕ, inl, inr, Bool, true, false, List, [], ◌∷◌, map, refl, sym, ◌∙◌, ap, subst, Option, Some, None, is_some, string_bytes, suc, length, arith, ap₂, codes, not, String, Global}
+use Rattle.std.proofs.Common.{◌≡◌, ◌⊎◌, ℕ, inl, inr, Bool, true, false, List, [], ◌∷◌, map, refl, sym, ◌∙◌, ap, subst, Option, Some, None, is_some, string_bytes, suc, length, arith, ap₂, codes, not, String, Global}
 use Rattle.std.specs.Prelude.{◌||◌, find, option_map, option_and_then, slice_get, if◌then◌else◌}
 use Rattle.std.specs.Str.{bytes_eq}
 use Rattle.clap.specs.Walk.{Row, first_of, all_of}
@@ -16,6 +16,7 @@ use Rattle.clap.proofs.WalkLemmas.{first_value-rows, raw_values-rows}
 use Rattle.std.proofs.lemmas.Slice.Eq.{bytes_eq-Decides}
 use Rattle.celt_session.specs.declared.settings.Form.{Form}
 use Rattle.celt_session.specs.declared.settings.Form.TheVariants.{Wav, Plain}
+use Rattle.celt_cli.specs.declared.words.Command.{Command}
 use Rattle.celt_cli.specs.declared.words.Command.TheVariants.{Decode}
 use Rattle.celt_cli.specs.Words.{decode_settings, decode_options, decode_by, encode_options, encode_by, encode_with, bytes_in, frame_in, band_in, group_in, gen_options, gen_by, gen_with, seed_in, frames_in, ranges_by, command_in, command_of}
 use Rattle.celt_cli.specs.Options.{Text, Known, Given, has_option, value_of, options_in}
@@ -166,3 +167,36 @@ names_gen ws name rest text is t e = named ws name rest text is t ∙ ap (λ n. 
 pub names_none : (ws : List (String Global)) (name : String Global) (rest : List (String Global)) (text : Text) → ws ≡ name ∷ rest → text ≡ string_bytes name
     → (text ≡ codes "decode" → ⊥) → (text ≡ codes "encode" → ⊥) → (text ≡ codes "ranges" → ⊥) → (text ≡ codes "gen" → ⊥) → None ≡ command_of ws
 names_none ws name rest text is t d e r g = sym (named ws name rest text is t ∙ none_named text (map string_bytes rest) d e r g)
+
+pub no_command : (command : Command) → command_in [] ≡ Some command → ⊥
+unfolding command_in
+no_command command h = cc
+
+-- a name that is none of the four names no command
+pub one_of_four : (name : Text) (words : List Text) (command : Command) → command_in (name ∷ words) ≡ Some command
+    → (name ≡ codes "decode") ⊎ (name ≡ codes "encode") ⊎ (name ≡ codes "ranges") ⊎ (name ≡ codes "gen")
+unfolding command_in
+one_of_four name words command h = decode_by_test (bytes_eq name (codes "decode")) refl h where
+  gen_by_test : (b : Bool) → bytes_eq name (codes "gen") ≡ b → (if b then gen_by (options_in gen_options words) else None) ≡ Some command
+      → (name ≡ codes "decode") ⊎ (name ≡ codes "encode") ⊎ (name ≡ codes "ranges") ⊎ (name ≡ codes "gen")
+  gen_by_test true e g = inr (inr (inr ((bytes_eq-Decides name (codes "gen")).0 e)))
+  gen_by_test false e g = cc
+
+  ranges_by_test : (b : Bool) → bytes_eq name (codes "ranges") ≡ b → (if b then ranges_by (options_in [] words) else (if bytes_eq name (codes "gen") then gen_by (options_in gen_options words) else None)) ≡ Some command
+      → (name ≡ codes "decode") ⊎ (name ≡ codes "encode") ⊎ (name ≡ codes "ranges") ⊎ (name ≡ codes "gen")
+  ranges_by_test true e g = inr (inr (inl ((bytes_eq-Decides name (codes "ranges")).0 e)))
+  ranges_by_test false e g = gen_by_test (bytes_eq name (codes "gen")) refl g
+
+  encode_by_test : (b : Bool) → bytes_eq name (codes "encode") ≡ b
+      → (if b then encode_by (options_in encode_options words) else
+      (if bytes_eq name (codes "ranges") then ranges_by (options_in [] words) else (if bytes_eq name (codes "gen") then gen_by (options_in gen_options words) else None))) ≡ Some command
+      → (name ≡ codes "decode") ⊎ (name ≡ codes "encode") ⊎ (name ≡ codes "ranges") ⊎ (name ≡ codes "gen")
+  encode_by_test true e g = inr (inl ((bytes_eq-Decides name (codes "encode")).0 e))
+  encode_by_test false e g = ranges_by_test (bytes_eq name (codes "ranges")) refl g
+
+  decode_by_test : (b : Bool) → bytes_eq name (codes "decode") ≡ b
+      → (if b then decode_by (options_in decode_options words) else (if bytes_eq name (codes "encode") then encode_by (options_in encode_options words) else
+      (if bytes_eq name (codes "ranges") then ranges_by (options_in [] words) else (if bytes_eq name (codes "gen") then gen_by (options_in gen_options words) else None)))) ≡ Some command
+      → (name ≡ codes "decode") ⊎ (name ≡ codes "encode") ⊎ (name ≡ codes "ranges") ⊎ (name ≡ codes "gen")
+  decode_by_test true e g = inl ((bytes_eq-Decides name (codes "decode")).0 e)
+  decode_by_test false e g = encode_by_test (bytes_eq name (codes "encode")) refl g

@@ -1,7 +1,13 @@
 pub mod Digits
+pub mod EncodingLemmas
 pub mod Finding
-pub mod Generating
+pub mod GivenPairs
+pub mod HearingLemmas
 pub mod Noting
 pub mod OptionCommands
 pub mod OptionWalks
+pub mod PutPairs
+pub mod SpellingLemmas
+pub mod Tallying
 pub mod Unbuilt
+pub mod Windowing

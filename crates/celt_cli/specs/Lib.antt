@@ -1,7 +1,17 @@
+pub mod EncodingMakers
+pub mod GenLines
+pub mod GenPairs
+pub mod GenSignals
+pub mod GenSums
+pub mod GenWindows
 pub mod Generator
 pub mod Generators
+pub mod Hearings
+pub mod Makers
 pub mod Notes
 pub mod Options
 pub mod Parses
 pub mod Runs
+pub mod SilentMakers
+pub mod Spellings
 pub mod Words

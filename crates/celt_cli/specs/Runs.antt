@@ -14,6 +14,8 @@ use Rattle.celt_cli.specs.declared.words.Command.{Command}
 use Rattle.celt_cli.specs.declared.words.Command.TheVariants.{Decode, Encode, Gen}
 use Rattle.celt_cli.specs.declared.notes.Place.{Place}
 use Rattle.celt_cli.specs.declared.notes.Place.TheVariants.{Page, Byte}
+use Rattle.celt_cli.specs.EncodingMakers.{encoding_makers}
+use Rattle.celt_cli.specs.GenLines.{AddsLine, gen_line, generating}
 use Rattle.celt_cli.specs.Notes.{usage, refusal_of}
 
 -- the line that a status gives, given what the place of a fault counts where a form is not built
@@ -63,11 +65,10 @@ unbuilt_meaning = record { full = λ bytes. []; running = λ bytes. []; fault_of
 abbrev pub encoding_for : Settings → Meaning
 encoding_for settings = if settings.group == 1 then encoding settings else unbuilt_meaning
 
--- `gen` is not built
 abbrev pub meaning_of : Command → Meaning
 meaning_of (Decode settings) = decoding settings
 meaning_of (Encode settings) = encoding_for settings
-meaning_of (Gen settings) = unbuilt_meaning
+meaning_of (Gen settings) = generating encoding_makers settings
 
 -- what the place of a fault counts where a form is not built
 abbrev pub unbuilt_of : Command → Place
@@ -90,4 +91,4 @@ reads (Gen settings) = false
 abbrev pub Wrote : Command → ℕ → List ℕ → Option (List ℕ) → Option (List ℕ) → Option (List ℕ) → Status → Type 0
 Wrote (Decode settings) limit bytes left old new status = Writes (decoding settings) limit bytes left old new status
 Wrote (Encode settings) limit bytes left old new status = WritesFront (encoding_for settings) limit bytes old new status
-Wrote (Gen settings) limit bytes left old new status = WritesFront unbuilt_meaning limit bytes old new status
+Wrote (Gen settings) limit bytes left old new status = AddsLine (gen_line encoding_makers settings) old new status

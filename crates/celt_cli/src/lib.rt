@@ -1,20 +1,33 @@
-//! The words of the program, its notes, the samples of `gen`, and a run over a source and two sinks.
+//! The words of the program, its notes, `gen`, and a run over a source and two sinks.
 #![tactic(auto)]
 
+pub mod encoding_maker;
 #[cfg(test)]
 mod encoding_tests;
 #[cfg(test)]
 mod gen_tests;
+pub mod generating;
+#[cfg(test)]
+mod generating_tests;
 pub mod generator;
 #[cfg(test)]
 mod generator_tests;
+pub mod hearing;
 #[cfg(test)]
 mod hostile_tests;
 pub mod laws;
+pub mod maker;
 #[cfg(test)]
 mod music_tests;
 pub mod notes;
+pub mod pairs;
 pub mod program;
+pub mod report;
+pub mod silent_maker;
+pub mod tally;
 #[cfg(test)]
 mod tests;
+pub mod windows;
+#[cfg(test)]
+mod windows_tests;
 pub mod words;

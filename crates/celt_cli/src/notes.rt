@@ -134,7 +134,7 @@ fn place_name(place: Place) -> &'static str
 }
 
 /// Puts a space, a label, a space and a number, and answers the place behind them.
-fn put_labelled(out: &mut [u8], at: usize, label: &str, number: u64) -> usize
+pub(crate) fn put_labelled(out: &mut [u8], at: usize, label: &str, number: u64) -> usize
     requires { at + length label.now + 22 ≤ length out.old }
     ensures put { IsPut out.old out.new at result (labelled_of label.now number) }
     ensures most { result ≤ at + length label.now + 22 }

@@ -2,9 +2,14 @@
 ghost use Rattle.std.specs.Prelude.{◌≡◌, ◌≢◌, ◌^◌, ◌≤◌, false, IfSome, None, Some};
 ghost use Rattle.celt_base.specs.Outside.{Rose};
 ghost use Rattle.celt_session.specs.Outcomes.{wanted, Answers, WritesFront};
+ghost use Rattle.celt_cli.specs.EncodingMakers.{encoding_makers};
+ghost use Rattle.celt_cli.specs.GenLines.{AddsLine, gen_line};
 ghost use Rattle.celt_cli.specs.Runs.{AnswersUsage, EitherRose, Says, IfReads, Wrote, encoding_for, meaning_of, not_built, reads, unbuilt_of};
 ghost use Rattle.celt_cli.specs.Words.{IsAllowed, IsCommand, command_of};
 
+use crate::encoding_maker::EncodingMaker;
+use crate::generating::write_generated;
+use crate::generator::GenSettings;
 use crate::notes::{MOST_LINE, Place, put_refusal};
 use crate::words::{Command, command_in};
 use celt_base::outside::{Gate, Sink, Source};
@@ -91,6 +96,22 @@ fn run_encode<R: Threads, S: Source, K: Sink, G: Gate>(
     encode_stream(rt, alloc, settings, LIMIT, input, output, gate)
 }
 
+/// Encodes and decodes samples of a seed, and writes what came out in one line.
+fn run_gen<K: Sink>(alloc: Global, settings: GenSettings, output: &mut K) -> Status
+    requires { settings.frames ≤ 10000 }
+    ensures status { Answers Status.Done result }
+    ensures never_read { result ≢ Status.ReadFault }
+    ensures line { AddsLine (gen_line encoding_makers settings) (K.held output.old) (K.held output.new) result }
+    ensures memory { result ≡ Status.NoMemory → output.new ≡ output.old }
+    ensures write_fault { result ≡ Status.WriteFault → Rose (K.faults output.old) (K.faults output.new) }
+    ensures kept { K.faults output.old ≤ K.faults output.new }
+{
+    let Ok(mut maker) = EncodingMaker::new(alloc) else {
+        return Status::NoMemory;
+    };
+    write_generated(alloc, &mut maker, settings, output)
+}
+
 /// Runs a command.
 fn run_command<R: Threads, S: Source, K: Sink, G: Gate>(
     rt: &R,
@@ -116,7 +137,7 @@ fn run_command<R: Threads, S: Source, K: Sink, G: Gate>(
             decode_stream(rt, alloc, settings, LIMIT, input, output, gate)
         }
         Command::Encode(settings) => run_encode(rt, alloc, settings, input, output, gate),
-        Command::Gen(_) => refuse_unbuilt(),
+        Command::Gen(settings) => run_gen(alloc, settings, output),
     }
 }
 

@@ -1,6 +1,6 @@
 use Rattle.std.proofs.Common.{refl}
 use Rattle.celt_cli.specs.Generator.{noise_behind}
-use Rattle.celt_cli.proofs.Generating.{left_low, left_high, right_low, right_high}
+use Rattle.celt_cli.proofs.GivenPairs.{left_low, left_high, right_low, right_high}
 use Rattle.celt_cli.proofs.laws.law_generated.Goals as goal
 
 pub returns-clause-left : goal.returns-clause-left

@@ -1,6 +1,9 @@
-use Rattle.std.proofs.Common.{◌^◌}
-use Rattle.celt_cli.proofs.Unbuilt.{gen_unbuilt}
+use Rattle.celt_cli.proofs.Unbuilt.{gen_answers, gen_wrote}
 use Rattle.celt_cli.proofs.program.run_command.Goals as goal
 
 pub returns-in-Gen-clause-status : goal.returns-in-Gen-clause-status
-returns-in-Gen-clause-status g c = gen_unbuilt c.args.command c.in-Gen.field-0 (2 ^ 40) (g.S.Source.left c.args.input.now) c.refuse_unbuilt.result c.in-Gen.is c.refuse_unbuilt.ensures
+returns-in-Gen-clause-status g c = gen_answers c.args.command c.in-Gen.settings (g.S.Source.left c.args.input.now) c.run_gen.result c.in-Gen.is c.run_gen.ensures.status
+
+pub returns-in-Gen-clause-output : goal.returns-in-Gen-clause-output
+returns-in-Gen-clause-output g c =
+    gen_wrote c.args.command c.in-Gen.settings (g.S.Source.left c.args.input.now) (g.S.Source.left c.args.input.now) (g.K.Sink.held c.args.output.now) (g.K.Sink.held c.run_gen.new.output) c.run_gen.result c.in-Gen.is c.run_gen.ensures.line

@@ -1,5 +1,5 @@
 use Rattle.std.proofs.Common.{refl}
-use Rattle.celt_cli.proofs.Generating.{no_noise}
+use Rattle.celt_cli.proofs.GivenPairs.{no_noise}
 use Rattle.celt_cli.proofs.generator.GenSamples.new.Goals as goal
 
 pub returns : goal.returns

@@ -2,7 +2,7 @@ use Rattle.std.proofs.Common.{◌∙◌, ap₂, arith, rules, add-one}
 use Rattle.std.specs.Prelude.{ℤ, FitsSigned}
 use Rattle.std.specs.Int.{w16}
 use Rattle.std.proofs.lemmas.Int.{to_z-of_z}
-use Rattle.celt_cli.proofs.Generating.{next_noise, left_is, right_is}
+use Rattle.celt_cli.proofs.GivenPairs.{next_noise, left_is, right_is}
 use Rattle.celt_cli.proofs.generator.GenSamples.next.Goals as goal
 
 pub returns-clause-pair : goal.returns-clause-pair
