@@ -12,6 +12,8 @@ mod laws;
 mod leaves;
 mod listening;
 mod listening_laws;
+#[cfg(test)]
+mod listening_tests;
 mod numbers;
 mod rooms;
 mod spreads;
