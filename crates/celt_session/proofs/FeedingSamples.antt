@@ -47,7 +47,7 @@ sound_by : (b : Bool) (n : ℕ) → lasting (if b then None else Some (record { 
 sound_by true n = refl
 sound_by false n = refl
 
-fault_is : (bytes : List ℕ) (o : Outcome) → outcome bytes ≡ o → fault_of bytes ≡ fault_by o (length bytes)
+pub fault_is : (bytes : List ℕ) (o : Outcome) → outcome bytes ≡ o → fault_of bytes ≡ fault_by o (length bytes)
 unfolding fault_of
 fault_is bytes o e = ap (λ (o : Outcome). fault_by o (length bytes)) e
 
@@ -94,7 +94,7 @@ faulty_now bytes fault e =
 
 -- ---- what is given before the samples
 
-given_is : (f : FrameFunction) (settings : Settings) (bytes : List ℕ) (o : Outcome) → outcome bytes ≡ o → given f settings bytes ≡ given_by f settings o bytes
+pub given_is : (f : FrameFunction) (settings : Settings) (bytes : List ℕ) (o : Outcome) → outcome bytes ≡ o → given f settings bytes ≡ given_by f settings o bytes
 unfolding given
 given_is f settings bytes o e = ap (λ (o : Outcome). given_by f settings o bytes) e
 
@@ -153,7 +153,7 @@ has_begun bytes channels rate place size e =
 
 -- ---- the text of more bytes
 
-text_from : (plan : Plan) (frame : ℕ → List ℕ) (p q : ℕ) → p ≤ q → pages_text plan frame 0 q ≡ pages_text plan frame 0 p ++ pages_text plan frame p (q - p)
+pub text_from : (plan : Plan) (frame : ℕ → List ℕ) (p q : ℕ) → p ≤ q → pages_text plan frame 0 q ≡ pages_text plan frame 0 p ++ pages_text plan frame p (q - p)
 text_from plan frame p q h =
     let e : q ≡ p + (q - p) = omega arith in
     let none : 0 + p ≡ p = omega arith in
@@ -245,8 +245,8 @@ module _ {W : Type 0} (w : FrameWorks W) (settings : Settings) (plan : Plan) (ch
 
 -- ---- what a session stands for
 
-pub plan_of : {W : Type 0} (w : FrameWorks W) (settings : Settings) (r : Recording) (m : Maker W) (bytes : List ℕ) (h : AmongSamples w settings r m bytes) → IsPlanOf r.plan settings h.channels (within_size h.size (drop h.place bytes)) bytes
-plan_of w settings r m bytes h = record {
+pub plan_of : {W : Type 0} (w : FrameWorks W) (settings : Settings) (r : Recording) (m : Maker W) (bytes : List ℕ) (fed : ℕ) (h : AmongSamples w settings r m fed bytes) → IsPlanOf r.plan settings h.channels (within_size h.size (drop h.place bytes)) bytes
+plan_of w settings r m bytes fed h = record {
   toc = h.toc;
   bytes_are = h.bytes_are;
   group = h.group;
@@ -254,7 +254,7 @@ plan_of w settings r m bytes h = record {
   samples_are = samples_are bytes h.channels 48000 h.place h.size h.begun;
 }
 
-module _ {W : Type 0} (w : FrameWorks W) (settings : Settings) (r : Recording) (m : Maker W) (bytes piece : List ℕ) (h : AmongSamples w settings r m bytes) where
+module _ {W : Type 0} (w : FrameWorks W) (settings : Settings) (r : Recording) (m : Maker W) (bytes piece : List ℕ) (fed : ℕ) (h : AmongSamples w settings r m fed bytes) where
   abbrev heard_in : List ℕ
   heard_in = within_size h.size (drop h.place bytes)
 
@@ -272,7 +272,7 @@ module _ {W : Type 0} (w : FrameWorks W) (settings : Settings) (r : Recording) (
 
   pub go_on : GoOn r.plan settings h.channels h.size h.place heard_in more_in bytes (bytes ++ piece)
   go_on = record {
-    before = plan_of w settings r m bytes h;
+    before = plan_of w settings r m bytes fed h;
     after = record {
       toc = h.toc;
       bytes_are = h.bytes_are;
@@ -285,8 +285,9 @@ module _ {W : Type 0} (w : FrameWorks W) (settings : Settings) (r : Recording) (
   }
 
   pub stands_now : (after : Recording) (now : Maker W) (packets : ℕ) (old new : Option (List ℕ)) → after.plan ≡ r.plan → after.left ≡ left_of r.left (length piece) → TakesAll w r.plan (heard_in ++ more_in) packets now old new
-      → AmongSamples w settings after now (bytes ++ piece)
+      → AmongSamples w settings after now (fed + length piece) (bytes ++ piece)
   stands_now after now packets old new plan left t = record {
+    count = let n = length-append bytes piece in let c = h.count in omega arith;
     channels = h.channels;
     size = h.size;
     place = h.place;
@@ -315,8 +316,9 @@ module _ {W : Type 0} (w : FrameWorks W) (settings : Settings) (r : Recording) (
   }
 
   pub stands_first : (after : Recording) (now : Maker W) (packets : ℕ) (old new : Option (List ℕ)) → after.plan ≡ r.plan → after.left ≡ left_of r.left (length rest) → used ≤ length piece → TakesAll w r.plan ([] ++ within_size r.left rest) packets now old new
-      → AmongSamples w settings after now (bytes ++ piece)
-  stands_first after now packets old new plan left within t = record {
+      → (fed : ℕ) → fed ≡ length bytes → AmongSamples w settings after now (fed + length piece) (bytes ++ piece)
+  stands_first after now packets old new plan left within t fed count = record {
+    count = let n = length-append bytes piece in omega arith;
     channels = channels;
     size = size;
     place = length bytes + used;

@@ -87,7 +87,7 @@ module _ (f : FrameFunction) (plan : Plan) (settings : Settings) (channels : ℕ
   audio_by toc group len x = record { toc = toc; group = group; bytes = λ t. len; samples = x }
 
   -- as the plan has it
-  audio_is : audio_by plan.toc plan.group plan.bytes (samples_of heard) ≡ audio_of settings channels bytes
+  pub audio_is : audio_by plan.toc plan.group plan.bytes (samples_of heard) ≡ audio_of settings channels bytes
   audio_is =
       ap (λ t. audio_by t plan.group plan.bytes (samples_of heard)) h.toc ∙ ap (λ g. audio_by (toc_of (coding_of settings) channels) g plan.bytes (samples_of heard)) h.group
       ∙ ap (λ b. audio_by (toc_of (coding_of settings) channels) settings.group b (samples_of heard)) h.bytes_are
@@ -99,15 +99,15 @@ module _ (f : FrameFunction) (plan : Plan) (settings : Settings) (channels : ℕ
   frames_are : plan_frame f plan heard ≡ frame_by (kind_of plan.toc) (duration (kind_of plan.toc))
   frames_are = ap (frame_by plan.kind) (plan.samples_is ∙ ap duration plan.kind_is) ∙ ap (λ k. frame_by k (duration (kind_of plan.toc))) plan.kind_is
 
-  coded_is : coded_by plan (plan_frame f plan heard) ≡ coded f (audio_of settings channels bytes)
+  pub coded_is : coded_by plan (plan_frame f plan heard) ≡ coded f (audio_of settings channels bytes)
   coded_is =
       ap (λ (frame : ℕ → List ℕ). coded_by plan frame) frames_are ∙ ap (coded f) audio_is
 
-  headers_are : (c : Coded) (pages : List Page) → (kind_in c).channels ≡ channels → flat_map spelling (with_headers c pages) ≡ headers_for channels ++ flat_map spelling pages
+  pub headers_are : (c : Coded) (pages : List Page) → (kind_in c).channels ≡ channels → flat_map spelling (with_headers c pages) ≡ headers_for channels ++ flat_map spelling pages
   headers_are c pages e =
       ap (λ n. spelling (head_page n) ++ (spelling tags_page ++ flat_map spelling pages)) e ∙ sym (append_assoc (spelling (head_page channels)) (spelling tags_page) (flat_map spelling pages))
 
-  kind_channels_are : (kind_of (toc_of (coding_of settings) channels)).channels ≡ channels
+  pub kind_channels_are : (kind_of (toc_of (coding_of settings) channels)).channels ≡ channels
   kind_channels_are = kind_channels (toc_of (coding_of settings) channels) ∙ (toc_is settings channels h.channels_are).channels_are
 
   packets_are : given_packets (coded f (audio_of settings channels bytes)) (sample_count (audio_of settings channels bytes)) ≡ packets_for plan heard
@@ -116,6 +116,12 @@ module _ (f : FrameFunction) (plan : Plan) (settings : Settings) (channels : ℕ
       let count : Kind → ℕ → ℕ → ℕ = λ k n len. 16 * (len / k.channels / (16 * n)) / plan.group in
       ap by (sym audio_is) ∙ ap (λ k. count k (duration (kind_of plan.toc)) (length (samples_of heard))) (sym plan.kind_is)
       ∙ ap (λ n. count plan.kind n (length (samples_of heard))) (sym (plan.samples_is ∙ ap duration plan.kind_is)) ∙ ap (count plan.kind plan.samples) (samples-len heard)
+
+  -- how many samples per channel they are
+  pub count_is : sample_count (audio_of settings channels bytes) ≡ length heard / 2 / plan.kind.channels
+  count_is =
+      let by : Kind → ℕ → ℕ = λ k n. n / k.channels in
+      ap sample_count (sym audio_is) ∙ ap (λ k. by k (length (samples_of heard))) (sym plan.kind_is) ∙ ap (by plan.kind) (samples-len heard)
 
   pub given_text : (declared : Option ℕ) (place : ℕ) → outcome bytes ≡ Started channels 48000 declared place → given f settings bytes ≡ headers_for channels ++ pages_text plan (plan_frame f plan heard) 0 (packets_for plan heard)
   unfolding given

@@ -4,6 +4,7 @@ pub mod Cutting
 pub mod Encoded
 pub mod EncodedPages
 pub mod EncodedSteps
+pub mod EndOfFile
 pub mod FeedingSamples
 pub mod Finishing
 pub mod Folding
@@ -11,6 +12,7 @@ pub mod Framing
 pub mod GivenPages
 pub mod Going
 pub mod KindFacts
+pub mod LastFrames
 pub mod Lining
 pub mod MakerLemmas
 pub mod PacketLemmas
@@ -26,5 +28,6 @@ pub mod Starting
 pub mod WaveLemmas
 pub mod WholeInput
 pub mod WholeReads
+pub mod WholeSizes
 pub mod WindowLemmas
 pub mod ZeroSamples

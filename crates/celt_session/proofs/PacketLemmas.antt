@@ -242,6 +242,12 @@ module _ (plan : Plan) (frame : ℕ → List ℕ) where
         let e : done + made + 1 ≡ done + (made + 1) = omega arith in
         subst (λ n. WritesFull plan frame n packets now old new) e (wrote_then (done + made) 1 packets mid now between new (Ok tt) a b)
 
+    pub wrote_before : (done made count packets : ℕ) (mid : Packer) (between new : Option (List ℕ)) → made < count → WritesFull plan frame (done + made) packets mid old between
+        → WritesSome plan frame (done + made) mid.packets between new → WritesSome plan frame (done + count - 1) packets old new
+    wrote_before done made count packets mid between new less a b =
+        let e : done + made + (count - made - 1) ≡ done + count - 1 = omega arith in
+        subst (λ n. WritesSome plan frame n packets old new) e (wrote_some (done + made) (count - made - 1) packets new (wrote_on (done + made) (done + made) packets mid mid between new (Err (record {})) a b))
+
     pub wrote_stop : (done made count packets : ℕ) (mid : Packer) (between new : Option (List ℕ)) → made < count → WritesFull plan frame (done + made) packets mid old between
         → WritesSome plan frame (done + made + 1) mid.packets between new → WritesSome plan frame (done + count) packets old new
     wrote_stop done made count packets mid between new less a b =

@@ -1,9 +1,9 @@
 -- What a session that encodes stands for, and what its calls add to the output.
-use Rattle.std.specs.Prelude.{◌≡◌, ℕ, ◌+◌, ◌-◌, ◌*◌, ◌/◌, ◌≤◌, ◌⊎◌, Bool, false, List, [], length, drop, Option, None, Some, option_map, if◌then◌else◌}
+use Rattle.std.specs.Prelude.{◌≡◌, ℕ, ◌+◌, ◌-◌, ◌*◌, ◌/◌, ◌≤◌, ◌⊎◌, Bool, false, List, [], length, drop, Option, None, Some, option_map, if◌then◌else◌, ◌%◌, ◌==◌}
 use Rattle.std.specs.List.{flat_map}
 use Rattle.std.specs.Io.KnownBytes.{Appends}
 use Rattle.celt_base.specs.declared.status.Fault.{Fault}
-use Rattle.celt_base.specs.Outside.{AppendsFront}
+use Rattle.celt_base.specs.Outside.{AppendsFront, Rose}
 use Rattle.ogg_pages.specs.Fields.{Page}
 use Rattle.ogg_pages.specs.Spelling.{spelling}
 use Rattle.wav_edge.specs.Reading.{Outcome, outcome, within_size}
@@ -12,6 +12,8 @@ use Rattle.wav_edge.specs.Readers.{StandsFor as ReadsTo, bytes_fed, has_started,
 use Rattle.celt_session.specs.declared.settings.Settings.{Settings}
 use Rattle.celt_session.specs.declared.fed.Fed.{Fed}
 use Rattle.celt_session.specs.declared.fed.Fed.TheVariants.{More, Fault as Stopped, WriteFault}
+use Rattle.celt_session.specs.declared.ended.Ended.{Ended}
+use Rattle.celt_session.specs.declared.ended.Ended.TheVariants.{Done, Fault as CutShort, WriteFault as NotWritten}
 use Rattle.celt_session.specs.declared.maker.Maker.{Maker}
 use Rattle.celt_session.specs.declared.recording.Recording.{Recording}
 use Rattle.celt_session.specs.declared.frame_session.FrameSession.{FrameSession}
@@ -19,7 +21,7 @@ use Rattle.celt_session.specs.Frames.{kind_of, duration}
 use Rattle.celt_session.specs.Encoding.{coding_of, toc_of}
 use Rattle.celt_session.specs.FrameFunctions.{FrameFunction}
 use Rattle.celt_session.specs.AudioPages.{Coded, kind_in, packets_from, with_headers}
-use Rattle.celt_session.specs.Encodings.{Audio, coded, sample_count, audio_of, fault_of}
+use Rattle.celt_session.specs.Encodings.{Audio, coded, sample_count, audio_of, fault_of, full, running}
 use Rattle.celt_session.specs.FrameWorks.{FrameWorks}
 use Rattle.celt_session.specs.Framers.{HasFramerRooms}
 use Rattle.celt_session.specs.Packers.{HasRooms}
@@ -69,7 +71,8 @@ pub record BeforeSamples {W : Type 0} (w : FrameWorks W) (s : FrameSession W) (b
   pub shows : w.Shows s.maker.work w.function.start
 
 -- among the samples of these bytes
-pub record AmongSamples {W : Type 0} (w : FrameWorks W) (settings : Settings) (r : Recording) (m : Maker W) (bytes : List ℕ) : Type 0 where
+pub record AmongSamples {W : Type 0} (w : FrameWorks W) (settings : Settings) (r : Recording) (m : Maker W) (fed : ℕ) (bytes : List ℕ) : Type 0 where
+  pub count : fed ≡ length bytes
   pub channels : ℕ
   pub size : Option ℕ
   pub place : ℕ
@@ -83,7 +86,7 @@ pub record AmongSamples {W : Type 0} (w : FrameWorks W) (settings : Settings) (r
 
 abbrev pub StandsBy : {W : Type 0} (w : FrameWorks W) → FrameSession W → List ℕ → Option Recording → Type 0
 StandsBy w s bytes None = BeforeSamples w s bytes
-StandsBy w s bytes (Some r) = AmongSamples w s.settings r s.maker bytes
+StandsBy w s bytes (Some r) = AmongSamples w s.settings r s.maker s.fed bytes
 
 -- it was fed these bytes
 abbrev pub StandsFor : {W : Type 0} (w : FrameWorks W) → FrameSession W → List ℕ → Type 0
@@ -134,3 +137,29 @@ abbrev pub Adds : {W : Type 0} (w : FrameWorks W) → Settings → List ℕ → 
 Adds w settings bytes now s old new More = StandsFor w s now × (fault_now now ≡ None) × Appends old new (given_more w.function settings bytes now)
 Adds w settings bytes now s old new (Stopped fault) = (fault_now now ≡ Some fault) × Appends old new (given_more w.function settings bytes now)
 Adds w settings bytes now s old new WriteFault = AppendsFront old new (given_more w.function settings bytes now)
+
+-- ---- THE END
+
+-- what all of the bytes give, and what no later byte changes, behind what was given of them
+unfoldable pub full_more : (f : FrameFunction) → Settings → List ℕ → List ℕ
+full_more f settings bytes = drop (length (given f settings bytes)) (full f settings bytes)
+
+unfoldable pub running_more : (f : FrameFunction) → Settings → List ℕ → List ℕ
+running_more f settings bytes = drop (length (given f settings bytes)) (running f settings bytes)
+
+-- what a call of end does
+abbrev pub Ends : (f : FrameFunction) → Settings → List ℕ → Option (List ℕ) → Option (List ℕ) → Ended → Type 0
+Ends f settings bytes old new Done = (fault_of bytes ≡ None) × Appends old new (full_more f settings bytes)
+Ends f settings bytes old new (CutShort fault) = (fault_of bytes ≡ Some fault) × Appends old new (full_more f settings bytes)
+Ends f settings bytes old new NotWritten = AppendsFront old new (full_more f settings bytes)
+
+-- a write fault comes only where the count rose, which never falls
+abbrev pub HasEndedCause : ℕ → ℕ → Ended → Type 0
+HasEndedCause before now Done = before ≤ now
+HasEndedCause before now (CutShort fault) = before ≤ now
+HasEndedCause before now NotWritten = Rose before now
+
+-- whether all samples came: none is left of the size that was declared, or the bytes that are held end with a whole group
+abbrev pub is_complete : Option ℕ → ℕ → ℕ → Bool
+is_complete None channels held = held % (2 * channels) == 0
+is_complete (Some left) channels held = left == 0

@@ -1,5 +1,5 @@
 -- What a maker of packets was given, and what it gave.
-use Rattle.std.specs.Prelude.{◌≡◌, ℕ, ◌*◌, ◌≤◌, ◌<◌, List, ◌++◌, length, drop, replicate, Option, Result, Ok, Err}
+use Rattle.std.specs.Prelude.{◌≡◌, ℕ, ◌*◌, ◌≤◌, ◌<◌, List, ◌++◌, length, drop, replicate, Option, Result, Ok, Err, ◌+◌, ◌-◌, ◌/◌}
 use Rattle.celt_base.specs.declared.outside.Failed.{Failed}
 use Rattle.wav_edge.specs.Samples.{samples_of}
 use Rattle.celt_session.specs.declared.plan.Plan.{Plan}
@@ -8,7 +8,10 @@ use Rattle.celt_session.specs.FrameFunctions.{FrameFunction, Row, state_before, 
 use Rattle.celt_session.specs.Windows.{lead, window_of}
 use Rattle.celt_session.specs.FrameWorks.{FrameWorks, batch_len}
 use Rattle.celt_session.specs.Framers.{HasFramerRooms}
-use Rattle.celt_session.specs.Packers.{HasRooms, Packs, WritesFull, WritesSome}
+use Rattle.ogg_pages.specs.Fields.{Page}
+use Rattle.ogg_pages.specs.Spelling.{spelling}
+use Rattle.celt_session.specs.AudioPages.{page_of}
+use Rattle.celt_session.specs.Packers.{HasRooms, Packs, WritesFull, WritesSome, coded_by, pages_text}
 
 -- the bytes of so many samples per channel
 abbrev pub group_bytes : ℕ → ℕ → ℕ
@@ -67,3 +70,21 @@ Taken w plan heard packets now old new (Err failure) = TakesSome w.function plan
 pub record GoesOn {W : Type 0} (plan : Plan) (m : Maker W) : Type 0 where
   pub held : length m.framer.held.items < 2 * batch_len plan.kind 16
   pub less : m.packer.count < plan.group
+
+-- ---- THE END OF THE SAMPLES
+
+-- how many packets are full of the frames whose samples are all there
+abbrev pub settled_for : Plan → List ℕ → ℕ
+settled_for plan heard = length heard / 2 / plan.kind.channels / (plan.group * plan.samples)
+
+-- how many frames hold the samples and the 120 that a decoder drops
+abbrev pub frames_for : Plan → List ℕ → ℕ
+frames_for plan heard = (120 + length heard / 2 / plan.kind.channels + plan.samples - 1) / plan.samples
+
+-- the page of the last packet
+abbrev pub last_for : (ℕ → List ℕ) → Plan → List ℕ → Page
+last_for frame plan heard = page_of (coded_by plan frame) 4 (120 + length heard / 2 / plan.kind.channels) ((frames_for plan heard - 1) / plan.group) (frames_for plan heard - (frames_for plan heard - 1) / plan.group * plan.group)
+
+-- the pages that are left at the end
+abbrev pub ending_text : (ℕ → List ℕ) → Plan → List ℕ → ℕ → List ℕ
+ending_text frame plan heard packets = pages_text plan frame packets ((frames_for plan heard - 1) / plan.group - packets) ++ spelling (last_for frame plan heard)

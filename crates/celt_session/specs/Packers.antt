@@ -1,5 +1,5 @@
 -- What was put into packets, and what of it is still to be written.
-use Rattle.std.specs.Prelude.{◌≡◌, ℕ, ◌+◌, ◌-◌, ◌*◌, ◌≤◌, List, length, take, Option, Result, Ok, Err}
+use Rattle.std.specs.Prelude.{◌≡◌, ℕ, ◌+◌, ◌-◌, ◌*◌, ◌≤◌, List, length, take, Option, Result, Ok, Err, ⊤}
 use Rattle.std.specs.List.{concat, flat_map}
 use Rattle.std.specs.Io.KnownBytes.{Appends}
 use Rattle.celt_base.specs.declared.outside.Failed.{Failed}
@@ -49,3 +49,8 @@ pub record WritesFull (plan : Plan) (frame : ℕ → List ℕ) (done packets : �
 abbrev pub Packed : Plan → (ℕ → List ℕ) → ℕ → ℕ → Packer → Option (List ℕ) → Option (List ℕ) → Result (Unit {0}) Failed → Type 0
 Packed plan frame done packets now old new (Ok written) = WritesFull plan frame done packets now old new
 Packed plan frame done packets now old new (Err failure) = WritesSome plan frame done packets old new
+
+-- A failure before frame `done` was put in.
+abbrev pub FailsBefore : Plan → (ℕ → List ℕ) → ℕ → ℕ → Option (List ℕ) → Option (List ℕ) → Result (Unit {0}) Failed → Type 0
+FailsBefore plan frame done packets old new (Ok written) = ⊤
+FailsBefore plan frame done packets old new (Err failure) = WritesSome plan frame done packets old new

@@ -102,3 +102,29 @@ fn feed_header<W: FrameWork + Drop, R: Threads, K: Sink, G: Gate>(
         }
     }
 }
+
+/// Feeds a piece, and adds what it gives to the output.
+pub(crate) fn feed_session<W: FrameWork + Drop, R: Threads, K: Sink, G: Gate>(
+    rt: &R,
+    session: &mut FrameSession<W>,
+    piece: &[u8],
+    output: &mut K,
+    gate: &G,
+) -> Fed
+    requires settings { AreSettings session.old.settings }
+    requires going { session.old.is_ended ≡ false }
+    requires goes { Goes W.work session.old }
+    requires limit { session.old.fed + length piece.now ≤ 2 ^ 40 }
+    ensures adds { (bytes : List ℕ) → StandsFor W.work session.old bytes →
+        Adds W.work session.old.settings bytes (bytes ++ piece.now) session.new (K.held output.old) (K.held output.new) result }
+    ensures ended { session.new.is_ended ≡ ends_session result }
+    ensures goes { session.new.is_ended ≡ false → Goes W.work session.new }
+    ensures settings { session.new.settings ≡ session.old.settings }
+    ensures fed { session.new.fed ≡ session.old.fed + length piece.now }
+    ensures cause { HasFedCause (K.faults output.old) (K.faults output.new) result }
+{
+    match session.recording {
+        Some(recording) => feed_samples(rt, recording, session, piece, output, gate),
+        None => feed_header(rt, session, piece, output, gate),
+    }
+}

@@ -2,7 +2,8 @@
 ghost use Rattle.std.specs.Prelude.{◌≡◌, ◌+◌, ◌-◌, ◌*◌, ◌^◌, ◌≤◌, ◌<◌, ◌++◌, ℕ, List, length, take, drop, IfOk, vec_capacity};
 ghost use Rattle.celt_base.specs.Outside.{HasCause};
 ghost use Rattle.celt_session.specs.FrameWorks.{batch_len};
-ghost use Rattle.celt_session.specs.Makers.{group_bytes, HasMade, IsMaker, Made, Taken, GoesOn};
+ghost use Rattle.celt_session.specs.Packers.{FailsBefore};
+ghost use Rattle.celt_session.specs.Makers.{plan_frame, group_bytes, HasMade, IsMaker, Made, Taken, GoesOn};
 
 use crate::batch::Batch;
 use crate::batching::{make_batch, take_in};
@@ -40,6 +41,8 @@ pub(crate) fn make_frames<W: FrameWork + Drop, R: Threads, K: Sink, G: Gate>(
     ensures maker { IsMaker W.work plan maker.new }
     ensures made { (heard : List ℕ) (done : ℕ) → HasMade W.work plan heard done maker.old →
         Made W.work plan heard (done + count) maker.old.packer.packets maker.new (K.held output.old) (K.held output.new) result }
+    ensures failed { (heard : List ℕ) (done : ℕ) → HasMade W.work plan heard done maker.old →
+        FailsBefore plan (plan_frame W.work.function plan heard) (done + count - 1) maker.old.packer.packets (K.held output.old) (K.held output.new) result }
     ensures held { length maker.new.framer.held.items ≡ length maker.old.framer.held.items - group_bytes plan.kind.channels (count * plan.samples) }
     ensures some { IfOk result (λ written. 1 ≤ maker.new.packer.count) }
     ensures sum { maker.new.packer.packets + maker.new.packer.count ≤ maker.old.packer.packets + maker.old.packer.count + count }

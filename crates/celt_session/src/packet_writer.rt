@@ -1,11 +1,11 @@
 //! What a packer does with frames.
-ghost use Rattle.std.specs.Prelude.{◌≡◌, ◌+◌, ◌*◌, ◌^◌, ◌≤◌, ◌<◌, ℕ, List, length, IfOk};
+ghost use Rattle.std.specs.Prelude.{◌≡◌, ◌+◌, ◌-◌, ◌*◌, ◌^◌, ◌≤◌, ◌<◌, ℕ, List, length, IfOk};
 ghost use Rattle.std.specs.List.{concat};
 ghost use Rattle.celt_base.specs.Outside.{HasCause, WritesAll};
 ghost use Rattle.ogg_pages.specs.Spelling.{spelling};
 ghost use Rattle.celt_session.specs.FrameFunctions.{frames_from};
 ghost use Rattle.celt_session.specs.AudioPages.{page_of};
-ghost use Rattle.celt_session.specs.Packers.{HasRooms, Packs, AreLong, coded_by, Packed};
+ghost use Rattle.celt_session.specs.Packers.{HasRooms, Packs, AreLong, coded_by, Packed, FailsBefore};
 
 use crate::encoding::write_frame;
 use crate::packer::Packer;
@@ -107,6 +107,8 @@ pub(crate) fn add_frame<K: Sink>(
     ensures rooms { HasRooms packer.new }
     ensures packed { (frame : ℕ → List ℕ) (done : ℕ) → AreLong plan frame → Packs plan frame done packer.old → bytes.now ≡ frame done →
         Packed plan frame (done + 1) packer.old.packets packer.new (K.held output.old) (K.held output.new) result }
+    ensures failed { (frame : ℕ → List ℕ) (done : ℕ) → AreLong plan frame → Packs plan frame done packer.old →
+        FailsBefore plan frame done packer.old.packets (K.held output.old) (K.held output.new) result }
     ensures few { packer.new.count ≤ plan.group }
     ensures some { IfOk result (λ written. 1 ≤ packer.new.count) }
     ensures sum { packer.new.packets + packer.new.count ≤ packer.old.packets + packer.old.count + 1 }
@@ -138,6 +140,8 @@ pub(crate) fn add_frames<K: Sink>(
     ensures rooms { HasRooms packer.new }
     ensures packed { (frame : ℕ → List ℕ) (done : ℕ) → AreLong plan frame → Packs plan frame done packer.old → frames.now ≡ concat (frames_from frame done count) →
         Packed plan frame (done + count) packer.old.packets packer.new (K.held output.old) (K.held output.new) result }
+    ensures failed { (frame : ℕ → List ℕ) (done : ℕ) → AreLong plan frame → Packs plan frame done packer.old → frames.now ≡ concat (frames_from frame done count) →
+        FailsBefore plan frame (done + count - 1) packer.old.packets (K.held output.old) (K.held output.new) result }
     ensures few { packer.new.count ≤ plan.group }
     ensures some { IfOk result (λ written. 1 ≤ packer.new.count) }
     ensures sum { packer.new.packets + packer.new.count ≤ packer.old.packets + packer.old.count + count }

@@ -1,4 +1,4 @@
-use Rattle.std.proofs.Common.{◌≡◌, arith, ◌-◌, length-drop, ◌+◌, ◌++◌, [], length, ap, subst, ◌∙◌}
+use Rattle.std.proofs.Common.{◌≡◌, arith, ◌-◌, length-drop, ◌+◌, ◌++◌, [], length, ap, subst, ◌∙◌, sym}
 use Rattle.celt_session.specs.declared.plan.Plan.{Plan}
 use Rattle.celt_session.specs.Makers.{GoesOn}
 use Rattle.celt_session.specs.FrameSessions.{StandsBy, BeforeSamples}
@@ -56,7 +56,7 @@ returns-in-Ok-take_piece-clause-adds g c = λ bytes stands.
     let t = e.taken [] 0 (is.made h.shows) in
     let going = subst (λ (p : Plan). GoesOn p after) e.plan (e.taking 0 is.taking).going in
     let plan = plan_first w s.settings r s.maker m bytes c.args.piece.now rest d.channels d.used d.size begun is c.split_at.ensures.back in (
-      stands_first w s.settings r s.maker m bytes c.args.piece.now rest d.channels d.used d.size begun is c.split_at.ensures.back _ after m.packer.packets mid new e.plan e.left d.ensures.used.1 t,
+      stands_first w s.settings r s.maker m bytes c.args.piece.now rest d.channels d.used d.size begun is c.split_at.ensures.back _ after m.packer.packets mid new e.plan e.left d.ensures.used.1 t s.fed (sym c.requires.reading.fed ∙ h.reads.count),
       sound_among now d.channels 48000 (length bytes + d.used) d.size begun,
       first_taken w s.settings r.plan d.channels (length bytes + d.used) d.size _ bytes now (given_none w.function s.settings bytes h.between h.unfinished) plan begun m.packer.packets after old mid new is.packets c.in-Ok.ensures.bytes t going,
     )

@@ -11,11 +11,11 @@ returns-in-Ok-clause-adds g c = λ bytes stands.
     let w = g.W.FrameWork.work in
     let s = c.args.session.now in
     let r = c.args.recording in
-    let h : AmongSamples w s.settings r s.maker bytes = subst (StandsBy w s bytes) c.requires.recording stands in
+    let h : AmongSamples w s.settings r s.maker s.fed bytes = subst (StandsBy w s bytes) c.requires.recording stands in
     let e = c.in-Ok.ensures in
     let t = e.taken (within_size h.size (drop h.place bytes)) h.batches h.made in
-    let goes = go_on w s.settings r s.maker bytes c.args.piece.now h in
-    let now = stands_now w s.settings r s.maker bytes c.args.piece.now h _ c.take_piece.new.maker s.maker.packer.packets (g.K.Sink.held c.args.output.now) (g.K.Sink.held c.take_piece.new.output) e.plan e.left t in (
+    let goes = go_on w s.settings r s.maker bytes c.args.piece.now s.fed h in
+    let now = stands_now w s.settings r s.maker bytes c.args.piece.now s.fed h _ c.take_piece.new.maker s.maker.packer.packets (g.K.Sink.held c.args.output.now) (g.K.Sink.held c.take_piece.new.output) e.plan e.left t in (
       now,
       sound_among (bytes ++ c.args.piece.now) now.channels 48000 now.place now.size now.begun,
       adds_taken w s.settings r.plan h.channels h.place h.size _ _ bytes (bytes ++ c.args.piece.now) goes h.batches s.maker c.take_piece.new.maker (g.K.Sink.held c.args.output.now) (g.K.Sink.held c.take_piece.new.output) h.made
@@ -30,7 +30,7 @@ returns-in-Err-clause-adds g c = λ bytes stands.
     let w = g.W.FrameWork.work in
     let s = c.args.session.now in
     let r = c.args.recording in
-    let h : AmongSamples w s.settings r s.maker bytes = subst (StandsBy w s bytes) c.requires.recording stands in
+    let h : AmongSamples w s.settings r s.maker s.fed bytes = subst (StandsBy w s bytes) c.requires.recording stands in
     let t = c.in-Err.ensures.taken (within_size h.size (drop h.place bytes)) h.batches h.made in
-    let goes = go_on w s.settings r s.maker bytes c.args.piece.now h in
+    let goes = go_on w s.settings r s.maker bytes c.args.piece.now s.fed h in
     adds_front w s.settings r.plan h.channels h.place h.size _ _ bytes (bytes ++ c.args.piece.now) goes h.batches s.maker (g.K.Sink.held c.args.output.now) (g.K.Sink.held c.take_piece.new.output) h.made c.requires.taking.going t

@@ -24,3 +24,12 @@ returns-clause-held g c =
     let used : 2 * c.from.result * c.args.count * plan.samples ≡ group_bytes plan.kind.channels (c.args.count * plan.samples) = ap (λ n. 2 * n * c.args.count * plan.samples) c.from.ensures ∙ used-is plan.kind.channels c.args.count plan.samples in
     ap length (c.drop_front.ensures.bytes ∙ ap (λ v. drop (2 * c.from.result * c.args.count * plan.samples) v.items) c.make_batch.ensures.held ∙ ap (λ n. drop n c.args.maker.now.framer.held.items) used)
     ∙ length-drop (group_bytes plan.kind.channels (c.args.count * plan.samples)) c.args.maker.now.framer.held.items
+
+pub returns-clause-failed : goal.returns-clause-failed
+returns-clause-failed g c = λ heard done h.
+    let w = g.W.FrameWork.work in
+    let plan = c.args.plan in
+    let m = c.args.maker.now in
+    let f = c.make_batch.ensures.works _ h.shows in
+    let frames = batch_frames w plan heard m.framer.held.items done _ _ _ refl refl h.held c.requires.held f in
+    c.add_frames.ensures.failed _ done (plan_long w.function plan heard) h.packs (c.split_at.ensures.front ∙ ap (take (c.args.count * plan.bytes)) c.deref.ensures.value ∙ frames)

@@ -15,3 +15,6 @@ returns-clause-packed g c = λ frame done long h is.
     let kept : length (put_mid at (at + c.args.plan.bytes - at) c.deref_mut.result.now c.copy_from_slice.new.self) ≡ length c.deref_mut.result.now = same_len_mid at (at + c.args.plan.bytes - at) c.deref_mut.result.now c.copy_from_slice.new.self c.copy_from_slice.ensures.len in
     put_frame c.args.plan frame (g.K.Sink.held c.args.output.now) done c.args.packer.now.packets c.copy_from_slice.new.self c.deref_mut.result.now c.write_full.new.packer (g.K.Sink.held c.write_full.new.output)
     c.in-Ok.ensures.rooms c.in-Ok.ensures.less len (part ∙ is) c.deref_mut.ensures.value kept (c.in-Ok.ensures.packed frame done long h)
+
+pub returns-in_default-clause-failed : goal.returns-in_default-clause-failed
+returns-in_default-clause-failed g c = λ frame done long h. c.in_default.ensures.packed frame done long h

@@ -1,6 +1,6 @@
 use Rattle.std.proofs.Common.{◌≡◌, ◌+◌, ◌*◌, ◌<◌, ap, ◌∙◌, arith, take, drop}
 use Rattle.celt_session.proofs.Rows.{frame-part}
-use Rattle.celt_session.proofs.PacketLemmas.{wrote_start, wrote_more, wrote_stop, wrote_all}
+use Rattle.celt_session.proofs.PacketLemmas.{wrote_start, wrote_more, wrote_stop, wrote_all, wrote_before}
 use Rattle.celt_session.proofs.packet_writer.add_frames.Goals as goal
 
 pub loop-made-init : goal.loop-made-init
@@ -46,3 +46,11 @@ pub returns-clause-packed : goal.returns-clause-packed
 returns-clause-packed g c = λ frame done long h is.
     let all : c.loop-made.made ≡ c.args.count = let a = c.loop-made.invariant.made_few in let b = c.loop-made-test.false in omega arith in
     wrote_all c.args.plan frame (g.K.Sink.held c.args.output.now) done c.loop-made.made c.args.count c.args.packer.now.packets c.loop-made.packer (g.K.Sink.held c.loop-made.output) all (c.loop-made.invariant.packed frame done long h is)
+
+pub returns-in_default-clause-failed : goal.returns-in_default-clause-failed
+returns-in_default-clause-failed g c = λ frame done long h is.
+    let p = c.args.plan in
+    let made = c.loop-made.made in
+    let w = c.loop-made.invariant.packed frame done long h is in
+    wrote_before p frame (g.K.Sink.held c.args.output.now) done made c.args.count c.args.packer.now.packets c.loop-made.packer (g.K.Sink.held c.loop-made.output) (g.K.Sink.held c.add_frame.new.output) c.loop-made-test.true w
+    (c.in_default.ensures.failed frame (done + made) long w.packs)
