@@ -5,7 +5,7 @@ use Rattle.band_energy.specs.EnergyValues.{energies_of}
 use Rattle.celt_base.specs.declared.kind.Kind.{Kind}
 use Rattle.celt_base.specs.declared.state.Setting.{Setting}
 use Rattle.celt_base.specs.declared.state.Shared.{Shared}
-use Rattle.celt_base.specs.Questions.{Answered, interval_of}
+use Rattle.celt_base.specs.Questions.{Answered}
 use Rattle.celt_base.specs.States.{IsOff}
 use Rattle.celt_base.specs.WalkOrders.{outcome}
 use Rattle.frame_symbols.specs.declared.fields.Fields.{Fields}
@@ -17,7 +17,7 @@ use Rattle.frame_symbols.specs.Readings.{IsReading}
 use Rattle.celt_synth.specs.Readings.{heard_of, setting_of, frame_step, value_in, value_of, share_by}
 use Rattle.celt_synth.specs.Rows.{greater, energies_after}
 use Rattle.celt_synth.specs.Shared.{SharedState, shared_of, shared_in, share, silent_energies, energies_in, setting_in}
-use Rattle.celt_synth.specs.States.{State, off, start}
+use Rattle.celt_synth.specs.States.{State, start}
 use Rattle.celt_synth.proofs.FrameLemmas.{frame_shares}
 use Rattle.celt_synth.proofs.ReadingLemmas.{changed_held}
 use Rattle.celt_synth.proofs.StepLemmas.{off_is}

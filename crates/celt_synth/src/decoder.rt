@@ -1,5 +1,5 @@
 //! A decoder of frames: the state that it keeps, and the frame step.
-ghost use Rattle.std.specs.Prelude.{◌≡◌, ◌*◌, ◌^◌, ◌≤◌, ◌<◌, nat_eq, if◌then◌else◌, pos, replicate, unsigned_abs, length, All};
+ghost use Rattle.std.specs.Prelude.{◌≡◌, ◌*◌, ◌^◌, ◌≤◌, ◌<◌, pos, replicate, unsigned_abs, length, All};
 ghost use Rattle.celt_base.specs.Energies.{AreEnergies};
 ghost use Rattle.mdct_fixed.specs.Mdct.{IsSize};
 ghost use Rattle.celt_synth.specs.AntiCollapse.{uncollapsed_if, AreGrounds};

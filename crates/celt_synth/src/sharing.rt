@@ -1,5 +1,5 @@
 //! What an encoder and its decoder share after a frame (RFC 6716, sections 4.3.2, 4.3.4.3 and 4.3.7.1).
-ghost use Rattle.std.specs.Prelude.{◌≡◌, ◌*◌, ℕ, Option, nat_eq, if◌then◌else◌};
+ghost use Rattle.std.specs.Prelude.{◌≡◌, ℕ, Option, nat_eq, if◌then◌else◌};
 ghost use Rattle.celt_base.specs.Energies.{AreEnergies};
 ghost use Rattle.frame_symbols.specs.Frames.{Sound};
 ghost use Rattle.frame_symbols.specs.Held.{HoldsFrame};

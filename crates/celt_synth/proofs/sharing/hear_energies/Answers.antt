@@ -2,7 +2,6 @@ use Rattle.std.proofs.Common.{◌≡◌, ◌∙◌, ap, sym, true, false}
 use Rattle.band_energy.specs.EnergyValues.{energies_of}
 use Rattle.celt_synth.specs.Shared.{silent_energies}
 use Rattle.celt_synth.specs.Rows.{silenced}
-use Rattle.celt_synth.proofs.ReadingLemmas.{suits_held}
 use Rattle.celt_synth.proofs.SharingLemmas.{energies_silent, energies_sounding}
 use Rattle.celt_synth.proofs.sharing.hear_energies.Goals as goal
 

@@ -1,4 +1,4 @@
-use Rattle.std.proofs.Common.{◌≡◌, ◌∙◌, refl}
+use Rattle.std.proofs.Common.{◌∙◌, refl}
 use Rattle.celt_synth.specs.Shared.{shared_in}
 use Rattle.celt_synth.proofs.SharingLemmas.{shared_held, shared_answers}
 use Rattle.celt_synth.proofs.sharing.share.Goals as goal
