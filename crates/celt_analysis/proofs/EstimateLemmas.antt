@@ -1,21 +1,24 @@
 -- Samples that are cut, and how near the sums of their products are.
-use Rattle.std.proofs.Common.{◌≡◌, ℕ, zero, suc, ◌+◌, ◌-◌, ◌*◌, ◌/◌, ◌^◌, ◌<◌, ◌≤◌, refl, sym, ap, subst, arith, ◌∙◌, true, false}
-use Rattle.std.specs.Prelude.{ℤ, pos, negsuc, ◌+ℤ◌, ◌-ℤ◌, ◌*ℤ◌, ◌≤ℤ◌, ◌<ℤ◌, unsigned_abs, FitsSigned}
-use Rattle.std.specs.Int.{w16, w32, w64, int_wrap, int_shr}
-use Rattle.std.proofs.lemmas.Int.{ints, int_wrap_fits, fits_signed_from_abs}
+use Rattle.std.proofs.Common.{◌≡◌, ℕ, zero, suc, ◌+◌, ◌-◌, ◌*◌, ◌/◌, ◌%◌, ◌^◌, ◌<◌, ◌≤◌, refl, sym, ap, subst, arith, ◌∙◌, true, false}
+use Rattle.std.specs.Prelude.{ℤ, pos, negsuc, neg_ℤ, ◌+ℤ◌, ◌-ℤ◌, ◌*ℤ◌, ◌≤ℤ◌, ◌<ℤ◌, unsigned_abs, FitsSigned}
+use Rattle.std.specs.Int.{w16, w32, w64, int_wrap, int_shr, cast_signed as to_z, cast_unsigned as of_z}
+use Rattle.std.proofs.lemmas.Int.{ints, int_wrap_fits, fits_signed_from_abs, to_z-of_z, wrapping_sub-bits, int_wrap-sub_right, int_wrap-add_left}
 use Rattle.std.proofs.lemmas.Nat.{mul-le}
 use Rattle.std.proofs.lemmas.Bool.{false≢true, ltb-false}
 use lib.Signed.{lt_z}
+use mir.ValLaws as laws
 use Rattle.std.proofs.Math.IntN.{*ℤ_comm, zero-*ℤ, *ℤ-zero}
-use Rattle.std.proofs.Math.Nat.{pow-suc, pow-le-pow_right}
+use Rattle.std.proofs.Math.Nat.{pow-suc, pow-le-pow_right, mod-lt}
 use Rattle.fixed_math.proofs.IntLemmas.{+ℤ-*ℤ, -ℤ-*ℤ, *ℤ_assoc}
 use Rattle.fixed_math.proofs.RoundingLemmas.{product_within, shr_low, shr_high, shr_scaled}
-use Rattle.celt_analysis.specs.Pitch.{positive_part, correlations}
+use Rattle.celt_analysis.specs.Pitch.{positive_part}
+use Rattle.celt_analysis.specs.Search.{IsNear}
 use Rattle.celt_analysis.specs.Sums.{sum_from, signed_sum, correlation, magnitude}
+use Rattle.celt_analysis.proofs.LaneLemmas.{times-is}
 use Rattle.celt_analysis.proofs.SumLemmas.{signed_sum-join, signed_sum-le}
 
 -- a product is near that of two numbers that are within h of its factors
-pub near-product : (x y u w : ℤ) (h : ℕ) → unsigned_abs (x -ℤ u) ≤ h → unsigned_abs (y -ℤ w) ≤ h → (x *ℤ y) ≤ℤ (u *ℤ w +ℤ pos (h * unsigned_abs x + h * unsigned_abs y + h * h))
+pub near-product : (x y u w : ℤ) (h : ℕ) → unsigned_abs (x -ℤ u) ≤ h → unsigned_abs (y -ℤ w) ≤ h → unsigned_abs (x *ℤ y -ℤ u *ℤ w) ≤ h * unsigned_abs x + h * unsigned_abs y + h * h
 near-product x y u w h p q =
     let a : ℤ = x -ℤ u in
     let b : ℤ = y -ℤ w in
@@ -31,11 +34,11 @@ near-product x y u w h p q =
     let m : unsigned_abs x * h ≡ h * unsigned_abs x = omega arith in
     closing (x *ℤ y) (u *ℤ y) (u *ℤ w) (u *ℤ b) (a *ℤ y) (x *ℤ b) (a *ℤ b) (h * unsigned_abs x) (h * unsigned_abs y) (h * h) f1 (sym c3 ∙ f2 ∙ ap (λ z. z -ℤ w *ℤ u) c1 ∙ ap (λ z. u *ℤ y -ℤ z) c2) f3 b1 (omega arith) b3
   where
-    closing : (xy uy uw ub ay xb ab : ℤ) (k l m : ℕ) → ay ≡ xy -ℤ uy → ub ≡ uy -ℤ uw → ab ≡ xb -ℤ ub → unsigned_abs ay ≤ l → unsigned_abs xb ≤ k → unsigned_abs ab ≤ m → xy ≤ℤ (uw +ℤ pos (k + l + m))
+    closing : (xy uy uw ub ay xb ab : ℤ) (k l m : ℕ) → ay ≡ xy -ℤ uy → ub ≡ uy -ℤ uw → ab ≡ xb -ℤ ub → unsigned_abs ay ≤ l → unsigned_abs xb ≤ k → unsigned_abs ab ≤ m → unsigned_abs (xy -ℤ uw) ≤ k + l + m
     closing xy uy uw ub ay xb ab k l m e f g p q r = omega (arith, ints)
 
 -- sums of terms that are near each other
-pub signed_sum-near : (f g : ℕ → ℤ) (k : ℕ → ℕ) (n : ℕ) → ((i : ℕ) → i < n → f i ≤ℤ (g i +ℤ pos (k i))) → signed_sum f n ≤ℤ (signed_sum g n +ℤ pos (sum_from k 0 n))
+pub signed_sum-near : (f g : ℕ → ℤ) (k : ℕ → ℕ) (n : ℕ) → ((i : ℕ) → i < n → unsigned_abs (f i -ℤ g i) ≤ k i) → unsigned_abs (signed_sum f n -ℤ signed_sum g n) ≤ sum_from k 0 n
 unfolding signed_sum sum_from
 signed_sum-near f g k zero h = omega (arith, ints)
 signed_sum-near f g k (suc n) h =
@@ -45,7 +48,7 @@ signed_sum-near f g k (suc n) h =
     same : (n : ℕ) → 0 + n ≡ n
     same n = omega arith
 
-    closing : (a b c d : ℤ) (k l m : ℕ) → m ≡ l → a ≤ℤ (c +ℤ pos k) → b ≤ℤ (d +ℤ pos l) → (a +ℤ b) ≤ℤ ((c +ℤ d) +ℤ pos (k + m))
+    closing : (a b c d : ℤ) (k l m : ℕ) → m ≡ l → unsigned_abs (a -ℤ c) ≤ k → unsigned_abs (b -ℤ d) ≤ l → unsigned_abs ((a +ℤ b) -ℤ (c +ℤ d)) ≤ k + m
     closing a b c d k l m e p q = omega (arith, ints)
 
 -- a common factor
@@ -128,51 +131,51 @@ positive_part-le (pos m) (pos n) h = omega (arith, ints)
 positive_part-le (pos m) (negsuc n) h = absurd (omega (arith, ints))
 positive_part-le (negsuc m) y h = omega arith
 
--- the match of samples is at most the scaled sum of products of the cut ones, and the error
-pub match-below : (s x v : ℕ → ℤ) (k f b n m : ℕ) → b + n ≤ m → ((i : ℕ) → i < n → x (b + i) ≡ cut_of k (s (b + i))) → ((i : ℕ) → i < n → v (0 + i) ≡ cut_of k (s (f + i))) → correlation s s f b n ≤ℤ (correlation x v b 0 n *ℤ pos (2 ^ k * 2 ^ k) +ℤ pos (2 ^ k / 2 * (magnitude s f n + magnitude s 0 m) + n * (2 ^ k / 2 * (2 ^ k / 2))))
-match-below s x v k f b n m le hx hv =
+-- the correlation of samples is at most the error from the scaled sum of products of the quantized ones
+pub match-near : (s x v : ℕ → ℤ) (k f b w n m : ℕ) → b + n ≤ m → ((i : ℕ) → i < n → x (b + i) ≡ cut_of k (s (b + i))) → ((i : ℕ) → i < n → v (w + i) ≡ cut_of k (s (f + i))) → unsigned_abs (correlation s s f b n -ℤ correlation x v b w n *ℤ pos (2 ^ k * 2 ^ k)) ≤ 2 ^ k / 2 * (magnitude s f n + magnitude s 0 m) + n * (2 ^ k / 2 * (2 ^ k / 2))
+match-near s x v k f b w n m le hx hv =
     let h : ℕ = 2 ^ k / 2 in
     let p : ℤ = pos (2 ^ k) in
-    let g : ℕ → ℤ = λ i. x (b + i) *ℤ v (0 + i) in
-    let near : signed_sum (λ i. s (f + i) *ℤ s (b + i)) n ≤ℤ (signed_sum (λ i. g i *ℤ pos (2 ^ k * 2 ^ k)) n +ℤ pos (sum_from (λ i. h * unsigned_abs (s (f + i)) + h * unsigned_abs (s (b + i)) + h * h) 0 n)) = signed_sum-near _ _ _ n each in
+    let g : ℕ → ℤ = λ i. x (b + i) *ℤ v (w + i) in
+    let near : unsigned_abs (signed_sum (λ i. s (f + i) *ℤ s (b + i)) n -ℤ signed_sum (λ i. g i *ℤ pos (2 ^ k * 2 ^ k)) n) ≤ sum_from (λ i. h * unsigned_abs (s (f + i)) + h * unsigned_abs (s (b + i)) + h * h) 0 n = signed_sum-near _ _ _ n each in
     let scaled : signed_sum (λ i. g i *ℤ pos (2 ^ k * 2 ^ k)) n ≡ signed_sum g n *ℤ pos (2 ^ k * 2 ^ k) = signed_sum-scaled g (pos (2 ^ k * 2 ^ k)) n in
     let error = sum_from-error s h f b n in
     let part : magnitude s b n ≤ magnitude s 0 m = magnitude-part s b n m le in
     let prod : h * magnitude s b n ≤ h * magnitude s 0 m = mul-le h (magnitude s b n) h (magnitude s 0 m) (omega arith) part in
     closing _ _ _ _ h (magnitude s f n) (magnitude s b n) (magnitude s 0 m) (n * (h * h)) near scaled error prod
   where
-    each : (i : ℕ) → i < n → (s (f + i) *ℤ s (b + i)) ≤ℤ ((x (b + i) *ℤ v (0 + i)) *ℤ pos (2 ^ k * 2 ^ k) +ℤ pos (2 ^ k / 2 * unsigned_abs (s (f + i)) + 2 ^ k / 2 * unsigned_abs (s (b + i)) + 2 ^ k / 2 * (2 ^ k / 2)))
+    each : (i : ℕ) → i < n → unsigned_abs (s (f + i) *ℤ s (b + i) -ℤ (x (b + i) *ℤ v (w + i)) *ℤ pos (2 ^ k * 2 ^ k)) ≤ 2 ^ k / 2 * unsigned_abs (s (f + i)) + 2 ^ k / 2 * unsigned_abs (s (b + i)) + 2 ^ k / 2 * (2 ^ k / 2)
     each i q =
         let cf : ℤ = cut_of k (s (f + i)) in
         let cb : ℤ = cut_of k (s (b + i)) in
         let near = near-product (s (f + i)) (s (b + i)) (cf *ℤ pos (2 ^ k)) (cb *ℤ pos (2 ^ k)) (2 ^ k / 2) (cut-near k (s (f + i))) (cut-near k (s (b + i))) in
-        let e : (cf *ℤ pos (2 ^ k)) *ℤ (cb *ℤ pos (2 ^ k)) ≡ (x (b + i) *ℤ v (0 + i)) *ℤ pos (2 ^ k * 2 ^ k) =
+        let e : (cf *ℤ pos (2 ^ k)) *ℤ (cb *ℤ pos (2 ^ k)) ≡ (x (b + i) *ℤ v (w + i)) *ℤ pos (2 ^ k * 2 ^ k) =
         scaled-product cf cb (pos (2 ^ k)) ∙ ap (λ z. z *ℤ (pos (2 ^ k) *ℤ pos (2 ^ k))) (*ℤ_comm cf cb ∙ ap (λ z. z *ℤ cf) (sym (hx i q)) ∙ ap (λ z. x (b + i) *ℤ z) (sym (hv i q))) in
-        subst (λ z. (s (f + i) *ℤ s (b + i)) ≤ℤ (z +ℤ pos (2 ^ k / 2 * unsigned_abs (s (f + i)) + 2 ^ k / 2 * unsigned_abs (s (b + i)) + 2 ^ k / 2 * (2 ^ k / 2)))) e near
+        subst (λ z. unsigned_abs (s (f + i) *ℤ s (b + i) -ℤ z) ≤ 2 ^ k / 2 * unsigned_abs (s (f + i)) + 2 ^ k / 2 * unsigned_abs (s (b + i)) + 2 ^ k / 2 * (2 ^ k / 2)) e near
 
-    closing : (a b c : ℤ) (m h u v w t : ℕ) → a ≤ℤ (b +ℤ pos m) → b ≡ c → m ≡ h * u + h * v + t → h * v ≤ h * w → a ≤ℤ (c +ℤ pos (h * (u + w) + t))
+    closing : (a b c : ℤ) (m h u v w t : ℕ) → unsigned_abs (a -ℤ b) ≤ m → b ≡ c → m ≡ h * u + h * v + t → h * v ≤ h * w → unsigned_abs (a -ℤ c) ≤ h * (u + w) + t
     closing a b c m h u v w t p e f q = omega (arith, ints)
 
 -- ---- sums that end in zeros, and that fit
 
-zeros-signed_sum : (f : ℕ → ℤ) (n : ℕ) → ((i : ℕ) → f i ≡ pos 0) → signed_sum f n ≡ pos 0
+zeros-signed_sum : (f : ℕ → ℤ) (n : ℕ) → ((i : ℕ) → i < n → f i ≡ pos 0) → signed_sum f n ≡ pos 0
 unfolding signed_sum
 zeros-signed_sum f zero h = refl
-zeros-signed_sum f (suc n) h = omega (arith, ints, zeros-signed_sum f n h, h n)
+zeros-signed_sum f (suc n) h = omega (arith, ints, zeros-signed_sum f n (λ i p. h i (omega arith)), h n (omega arith))
 
-pub signed_sum-ended : (f : ℕ → ℤ) (m n : ℕ) → n ≤ m → ((i : ℕ) → n ≤ i → f i ≡ pos 0) → signed_sum f m ≡ signed_sum f n
+pub signed_sum-ended : (f : ℕ → ℤ) (m n : ℕ) → n ≤ m → ((i : ℕ) → n ≤ i → i < m → f i ≡ pos 0) → signed_sum f m ≡ signed_sum f n
 signed_sum-ended f m n h z =
     let e : n + (m - n) ≡ m = omega arith in
-    sym (ap (signed_sum f) e) ∙ signed_sum-join f n (m - n) ∙ closing (signed_sum f n) (signed_sum (λ i. f (n + i)) (m - n)) (zeros-signed_sum (λ i. f (n + i)) (m - n) (λ i. z (n + i) (omega arith)))
+    sym (ap (signed_sum f) e) ∙ signed_sum-join f n (m - n) ∙ closing (signed_sum f n) (signed_sum (λ i. f (n + i)) (m - n)) (zeros-signed_sum (λ i. f (n + i)) (m - n) (λ i p. z (n + i) (omega arith) (omega arith)))
   where
     closing : (a b : ℤ) → b ≡ pos 0 → a +ℤ b ≡ a
     closing a b e = omega (arith, ints)
 
-pub wrapped-exact : (x v : ℕ → ℤ) (t m n : ℕ) → n ≤ m → m ≤ 1024 → ((i : ℕ) → unsigned_abs (x i) ≤ 1448) → ((i : ℕ) → unsigned_abs (v i) ≤ 1448) → ((i : ℕ) → n ≤ i → v i ≡ pos 0) → int_wrap w32 (correlation x v t 0 m) ≡ correlation x v t 0 n
-wrapped-exact x v t m n le most hx hv z =
-    let b : unsigned_abs (correlation x v t 0 m) ≤ m * (1448 * 1448) = signed_sum-le (λ i. x (t + i) *ℤ v (0 + i)) (1448 * 1448) m (λ i. product_within (x (t + i)) (v (0 + i)) 1448 1448 (hx (t + i)) (hv (0 + i))) in
-    let f : FitsSigned w32 (correlation x v t 0 m) = fits_signed_from_abs w32 _ (omega arith) in
-    int_wrap_fits w32 (correlation x v t 0 m) f ∙ signed_sum-ended (λ i. x (t + i) *ℤ v (0 + i)) m n le (λ i p. ap (λ y. x (t + i) *ℤ y) (z (0 + i) (omega arith)) ∙ *ℤ-zero (x (t + i)))
+pub wrapped-exact : (s : ℕ → ℤ) (t w m n : ℕ) → n ≤ m → m ≤ 1024 → ((i : ℕ) → unsigned_abs (s i) ≤ 1448) → ((i : ℕ) → n ≤ i → i < m → s (w + i) ≡ pos 0) → int_wrap w32 (correlation s s t w m) ≡ correlation s s t w n
+wrapped-exact s t w m n le most h z =
+    let b : unsigned_abs (correlation s s t w m) ≤ m * (1448 * 1448) = signed_sum-le (λ i. s (t + i) *ℤ s (w + i)) (1448 * 1448) m (λ i. product_within (s (t + i)) (s (w + i)) 1448 1448 (h (t + i)) (h (w + i))) in
+    let f : FitsSigned w32 (correlation s s t w m) = fits_signed_from_abs w32 _ (omega arith) in
+    int_wrap_fits w32 (correlation s s t w m) f ∙ signed_sum-ended (λ i. s (t + i) *ℤ s (w + i)) m n le (λ i p q. ap (λ y. s (t + i) *ℤ y) (z i p q) ∙ *ℤ-zero (s (t + i)))
 
 -- ---- gain_steps of the code
 
@@ -180,9 +183,10 @@ pub pow-most : (k : ℕ) → k ≤ 5 → 2 ^ k ≤ 32
 pow-most k h = pow-le-pow_right {n = 2} (omega arith) h
 
 pub record CutSteps (x h : ℤ) (k : ℕ) : Type 0 where
-  pub half : FitsSigned w64 h
-  pub sum : FitsSigned w64 (x +ℤ h)
-  pub wide : FitsSigned w64 (int_shr (x +ℤ h) k)
+  pub wide : FitsSigned w32 x
+  pub half : FitsSigned w32 h
+  pub sum : FitsSigned w32 (x +ℤ h)
+  pub shifted : FitsSigned w32 (int_shr (x +ℤ h) k)
   pub narrow : FitsSigned w16 (int_shr (x +ℤ h) k)
   pub size : unsigned_abs (int_shr (x +ℤ h) k) ≤ 1448
 
@@ -193,9 +197,10 @@ cut_steps x h k le e b =
     let s : unsigned_abs (x +ℤ h) ≤ 1448 * 2 ^ k = within x h (2 ^ k / 2) (1448 * 2 ^ k) hs b in
     let t : unsigned_abs (int_shr (x +ℤ h) k) ≤ 1448 = shr_scaled (x +ℤ h) k 1448 s in
     record {
-      half = fits_signed_from_abs w64 _ (omega arith);
-      sum = fits_signed_from_abs w64 _ (omega arith);
-      wide = fits_signed_from_abs w64 _ (omega arith);
+      wide = fits_signed_from_abs w32 _ (omega arith);
+      half = fits_signed_from_abs w32 _ (omega arith);
+      sum = fits_signed_from_abs w32 _ (omega arith);
+      shifted = fits_signed_from_abs w32 _ (omega arith);
       narrow = fits_signed_from_abs w16 _ (omega arith);
       size = t;
     }
@@ -247,16 +252,39 @@ fits-size (negsuc n) f =
     let p : n < 2 ^ 31 = f.sfits in
     omega arith
 
-pub bound-over : (s x v : ℕ → ℤ) (k n i : ℕ) (sum scale error : ℤ) → i < 1008 → scale ≡ pos (2 ^ k * 2 ^ k) → error ≡ pos (2 ^ k / 2 * (magnitude s 1022 n + magnitude s 0 (1022 + n)) + n * (2 ^ k / 2 * (2 ^ k / 2))) → sum ≡ correlation x v (1022 - (15 + i)) 0 n → ((j : ℕ) → j < 1022 + n → x j ≡ cut_of k (s (0 + j))) → ((j : ℕ) → j < n → v j ≡ cut_of k (s (1022 + j))) → correlations s 1022 n i ≤ positive_part (sum *ℤ scale +ℤ error)
-bound-over s x v k n i sum scale error l e f g hx hv =
+pub near-over : (s x : ℕ → ℤ) (k n i : ℕ) (sum scale error : ℤ) → i < 1008 → scale ≡ pos (2 ^ k * 2 ^ k) → error ≡ pos (2 ^ k / 2 * (magnitude s 1022 n + magnitude s 0 (1022 + n)) + n * (2 ^ k / 2 * (2 ^ k / 2))) → sum ≡ correlation x x (1022 - (15 + i)) 2048 n → ((j : ℕ) → j < 1022 + n → x j ≡ cut_of k (s j)) → ((j : ℕ) → j < n → x (2048 + j) ≡ cut_of k (s (1022 + j))) → IsNear s n i sum scale error
+near-over s x k n i sum scale error l e f g hx hv =
     let b : ℕ = 1022 - (15 + i) in
-    let m = match-below s x v k 1022 b n (1022 + n) (omega arith) (λ j p. hx (b + j) (omega arith) ∙ ap (λ y. cut_of k (s y)) (plain (b + j))) (λ j p. ap v (plain j) ∙ hv j p) in
-    positive_part-le (correlation s s 1022 b n) (sum *ℤ scale +ℤ error)
-    (subst (λ z. correlation s s 1022 b n ≤ℤ (sum *ℤ scale +ℤ z)) (sym f) (subst (λ z. correlation s s 1022 b n ≤ℤ (sum *ℤ z +ℤ pos (2 ^ k / 2 * (magnitude s 1022 n + magnitude s 0 (1022 + n)) + n * (2 ^ k / 2 * (2 ^ k / 2))))) (sym e)
-    (subst (λ z. correlation s s 1022 b n ≤ℤ (z *ℤ pos (2 ^ k * 2 ^ k) +ℤ pos (2 ^ k / 2 * (magnitude s 1022 n + magnitude s 0 (1022 + n)) + n * (2 ^ k / 2 * (2 ^ k / 2))))) (sym g) m)))
+    let m = match-near s x x k 1022 b 2048 n (1022 + n) (omega arith) (λ j p. hx (b + j) (omega arith)) hv in
+    let t : unsigned_abs (correlation s s 1022 b n -ℤ sum *ℤ scale) ≤ 2 ^ k / 2 * (magnitude s 1022 n + magnitude s 0 (1022 + n)) + n * (2 ^ k / 2 * (2 ^ k / 2)) =
+    subst (λ z. unsigned_abs (correlation s s 1022 b n -ℤ sum *ℤ z) ≤ 2 ^ k / 2 * (magnitude s 1022 n + magnitude s 0 (1022 + n)) + n * (2 ^ k / 2 * (2 ^ k / 2))) (sym e)
+    (subst (λ z. unsigned_abs (correlation s s 1022 b n -ℤ z *ℤ pos (2 ^ k * 2 ^ k)) ≤ 2 ^ k / 2 * (magnitude s 1022 n + magnitude s 0 (1022 + n)) + n * (2 ^ k / 2 * (2 ^ k / 2))) (sym g) m) in
+    subst (λ z. unsigned_abs (correlation s s 1022 b n -ℤ sum *ℤ scale) ≤ unsigned_abs z) (sym f) t
+
+-- an upper bound from an estimate
+pub bound-over : (c a error : ℤ) → pos 0 ≤ℤ error → unsigned_abs (c -ℤ a) ≤ unsigned_abs error → positive_part c ≤ positive_part (a +ℤ error)
+bound-over c a error p h = positive_part-le c (a +ℤ error) (closing c a error p h)
   where
-    plain : (j : ℕ) → 0 + j ≡ j
-    plain j = omega arith
+    closing : (c a error : ℤ) → pos 0 ≤ℤ error → unsigned_abs (c -ℤ a) ≤ unsigned_abs error → c ≤ℤ (a +ℤ error)
+    closing c a error p h = omega (arith, ints)
+
+-- a number from an estimate and what it is modulo 2^32
+pub low-difference : (sum scale low : ℤ) → FitsSigned w32 sum → FitsSigned w32 scale → FitsSigned w32 low → to_z w32 ((of_z w32 low + (2 ^ 32 - of_z w32 sum * of_z w32 scale % 2 ^ 32)) % 2 ^ 32) ≡ int_wrap w32 (low -ℤ sum *ℤ scale)
+low-difference sum scale low fs fq fl =
+    let p : ℕ = of_z w32 sum * of_z w32 scale % 2 ^ 32 in
+    let m : to_z w32 p ≡ int_wrap w32 (sum *ℤ scale) = times-is sum scale fs fq in
+    wrapping_sub-bits w32 (of_z w32 low) p (laws.of_z_fits w32 low fl).fits (mod-lt (of_z w32 sum * of_z w32 scale) (omega arith)) ∙ ap (λ z. int_wrap w32 (z -ℤ to_z w32 p)) (to_z-of_z w32 low fl) ∙ ap (λ z. int_wrap w32 (low -ℤ z)) m ∙ int_wrap-sub_right w32 low (sum *ℤ scale)
+
+pub wrapped-difference : (a low c : ℤ) → low ≡ int_wrap w32 c → unsigned_abs (c -ℤ a) < 2 ^ 31 → int_wrap w32 (low -ℤ a) ≡ c -ℤ a
+wrapped-difference a low c e h =
+    let f : FitsSigned w32 (c -ℤ a) = fits_signed_from_abs w32 _ (omega arith) in
+    ap (λ z. int_wrap w32 (z -ℤ a)) e ∙ ap (int_wrap w32) (turned (int_wrap w32 c) a) ∙ int_wrap-add_left w32 c (neg_ℤ a) ∙ ap (int_wrap w32) (sym (turned c a)) ∙ int_wrap_fits w32 (c -ℤ a) f
+  where
+    turned : (x y : ℤ) → x -ℤ y ≡ x +ℤ neg_ℤ y
+    turned x y = omega (arith, ints)
+
+pub back-again : (a z : ℤ) → a +ℤ (z -ℤ a) ≡ z
+back-again a z = omega (arith, ints)
 
 pub fits-short : (z : ℤ) → FitsSigned w16 z → unsigned_abs z ≤ 2 ^ 15
 fits-short (pos n) f =

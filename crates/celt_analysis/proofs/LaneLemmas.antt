@@ -1,12 +1,15 @@
 -- Eight lanes written out, and sums of products of them.
-use Rattle.std.proofs.Common.{◌≡◌, ℕ, zero, suc, ◌+◌, ◌*◌, ◌%◌, ◌^◌, ◌<◌, ◌≤◌, refl, ap, arith, ◌∙◌, List, [], ◌∷◌, length, get_or}
+use mir.ValLaws as laws
+use Rattle.std.proofs.Common.{◌≡◌, ℕ, zero, suc, ◌+◌, ◌*◌, ◌%◌, ◌^◌, ◌<◌, ◌≤◌, refl, sym, ap, arith, ◌∙◌, List, [], ◌∷◌, length, get_or}
 use Rattle.std.specs.Prelude.{ℤ, pos, negsuc, ◌+ℤ◌, ◌*ℤ◌, take, drop, FitsSigned}
 use Rattle.std.specs.Int.{w16, w32, int_wrap, cast_signed as to_z, cast_unsigned as of_z}
-use Rattle.std.proofs.lemmas.Int.{ints, wrapping_add-bits, wrapping_mul_is, int_wrap-add_left, int_wrap-add_right}
+use Rattle.std.proofs.lemmas.Int.{ints, to_z-of_z, of_z-to_z, wrapping_add-bits, wrapping_add_is, wrapping_mul_is, int_wrap-add_left, int_wrap-add_right, SFits-int_wrap}
 use Rattle.std.proofs.lemmas.List.{drop_more}
 use Rattle.std.proofs.Math.Nat.{mod-lt}
 use Rattle.fixed_math.specs.Items.{item}
+use Rattle.celt_analysis.specs.Lanes.{pair_at, in_lanes, pairs}
 use Rattle.celt_analysis.specs.Sums.{signed_sum, correlation}
+use Rattle.celt_analysis.proofs.SumLemmas.{signed_sum-none, signed_sum-more, correlation-join}
 
 -- n items from place i on
 abbrev pub row : List ℤ → ℕ → ℕ → List ℤ
@@ -49,17 +52,8 @@ four-is a b c d s t u v pa pb pc pd ea eb ec ed =
     let a3 = step (((0 + a) % 2 ^ 32 + b) % 2 ^ 32) c ((pos 0 +ℤ s) +ℤ t) u (below ((0 + a) % 2 ^ 32 + b)) pc a2 ec in
     step ((((0 + a) % 2 ^ 32 + b) % 2 ^ 32 + c) % 2 ^ 32) d (((pos 0 +ℤ s) +ℤ t) +ℤ u) v (below (((0 + a) % 2 ^ 32 + b) % 2 ^ 32 + c)) pd a3 ed
 
--- the lanes of eight products, and their sum
-pub eight-is : (x0 x1 x2 x3 x4 x5 x6 x7 y0 y1 y2 y3 y4 y5 y6 y7 : ℤ) → FitsSigned w32 x0 → FitsSigned w32 x1 → FitsSigned w32 x2 → FitsSigned w32 x3 → FitsSigned w32 x4 → FitsSigned w32 x5 → FitsSigned w32 x6 → FitsSigned w32 x7 → FitsSigned w32 y0 → FitsSigned w32 y1 → FitsSigned w32 y2 → FitsSigned w32 y3 → FitsSigned w32 y4 → FitsSigned w32 y5 → FitsSigned w32 y6 → FitsSigned w32 y7 →
-    to_z w32 (((((((0 + (times x0 y0 + times x1 y1) % 2 ^ 32) % 2 ^ 32) + (times x2 y2 + times x3 y3) % 2 ^ 32) % 2 ^ 32) + (times x4 y4 + times x5 y5) % 2 ^ 32) % 2 ^ 32 + (times x6 y6 + times x7 y7) % 2 ^ 32) % 2 ^ 32) ≡ int_wrap w32 ((((((((pos 0 +ℤ x0 *ℤ y0) +ℤ x1 *ℤ y1) +ℤ x2 *ℤ y2) +ℤ x3 *ℤ y3) +ℤ x4 *ℤ y4) +ℤ x5 *ℤ y5) +ℤ x6 *ℤ y6) +ℤ x7 *ℤ y7)
-eight-is x0 x1 x2 x3 x4 x5 x6 x7 y0 y1 y2 y3 y4 y5 y6 y7 f0 f1 f2 f3 f4 f5 f6 f7 g0 g1 g2 g3 g4 g5 g6 g7 =
-    four-is ((times x0 y0 + times x1 y1) % 2 ^ 32) ((times x2 y2 + times x3 y3) % 2 ^ 32) ((times x4 y4 + times x5 y5) % 2 ^ 32) ((times x6 y6 + times x7 y7) % 2 ^ 32) _ _ _ _
-    (below (times x0 y0 + times x1 y1)) (below (times x2 y2 + times x3 y3)) (below (times x4 y4 + times x5 y5)) (below (times x6 y6 + times x7 y7))
-    (pair-is x0 y0 x1 y1 f0 g0 f1 g1) (pair-is x2 y2 x3 y3 f2 g2 f3 g3) (pair-is x4 y4 x5 y5 f4 g4 f5 g5) (pair-is x6 y6 x7 y7 f6 g6 f7 g7)
-    ∙ ap (int_wrap w32) (regrouped (x0 *ℤ y0) (x1 *ℤ y1) (x2 *ℤ y2) (x3 *ℤ y3) (x4 *ℤ y4) (x5 *ℤ y5) (x6 *ℤ y6) (x7 *ℤ y7))
-  where
-    regrouped : (a b c d e f g h : ℤ) → ((((pos 0 +ℤ (a +ℤ b)) +ℤ (c +ℤ d)) +ℤ (e +ℤ f)) +ℤ (g +ℤ h)) ≡ (((((((pos 0 +ℤ a) +ℤ b) +ℤ c) +ℤ d) +ℤ e) +ℤ f) +ℤ g) +ℤ h
-    regrouped a b c d e f g h = omega (arith, ints)
+pub four-lanes : {A : Type 0} {a b c d x y z w : A} → a ≡ x → b ≡ y → c ≡ z → d ≡ w → (a ∷ b ∷ c ∷ d ∷ []) ≡ (x ∷ y ∷ z ∷ w ∷ [])
+four-lanes p q r s = λ i. p i ∷ q i ∷ r i ∷ s i ∷ []
 
 pub wider : (z : ℤ) → FitsSigned w16 z → FitsSigned w32 z
 wider (pos n) f =
@@ -69,22 +63,85 @@ wider (negsuc n) f =
     let p : n < 2 ^ 15 = f.sfits in
     record { sfits = omega arith }
 
--- the sum with its places written as those of a row
-pub sum-row : (u v : List ℤ) (i j : ℕ) → correlation (item u) (item v) i j 8 ≡ (((((((pos 0 +ℤ get_or u i (pos 0) *ℤ get_or v j (pos 0)) +ℤ get_or u (i + 1) (pos 0) *ℤ get_or v (j + 1) (pos 0)) +ℤ get_or u (i + 1 + 1) (pos 0) *ℤ get_or v (j + 1 + 1) (pos 0)) +ℤ get_or u (i + 1 + 1 + 1) (pos 0) *ℤ get_or v (j + 1 + 1 + 1) (pos 0)) +ℤ get_or u (i + 1 + 1 + 1 + 1) (pos 0) *ℤ get_or v (j + 1 + 1 + 1 + 1) (pos 0)) +ℤ get_or u (i + 1 + 1 + 1 + 1 + 1) (pos 0) *ℤ get_or v (j + 1 + 1 + 1 + 1 + 1) (pos 0)) +ℤ get_or u (i + 1 + 1 + 1 + 1 + 1 + 1) (pos 0) *ℤ get_or v (j + 1 + 1 + 1 + 1 + 1 + 1) (pos 0)) +ℤ get_or u (i + 1 + 1 + 1 + 1 + 1 + 1 + 1) (pos 0) *ℤ get_or v (j + 1 + 1 + 1 + 1 + 1 + 1 + 1) (pos 0)
-unfolding signed_sum
-sum-row u v i j =
-    let e0 : i + 0 ≡ i = omega arith in
+-- the pairs with their places written as those of a row
+pub pairs-row : (u : List ℤ) (i j : ℕ) → pairs (item u) i j ≡ in_lanes (get_or u i (pos 0) *ℤ get_or u j (pos 0) +ℤ get_or u (i + 1) (pos 0) *ℤ get_or u (j + 1) (pos 0)) (get_or u (i + 1 + 1) (pos 0) *ℤ get_or u (j + 1 + 1) (pos 0) +ℤ get_or u (i + 1 + 1 + 1) (pos 0) *ℤ get_or u (j + 1 + 1 + 1) (pos 0)) (get_or u (i + 1 + 1 + 1 + 1) (pos 0) *ℤ get_or u (j + 1 + 1 + 1 + 1) (pos 0) +ℤ get_or u (i + 1 + 1 + 1 + 1 + 1) (pos 0) *ℤ get_or u (j + 1 + 1 + 1 + 1 + 1) (pos 0)) (get_or u (i + 1 + 1 + 1 + 1 + 1 + 1) (pos 0) *ℤ get_or u (j + 1 + 1 + 1 + 1 + 1 + 1) (pos 0) +ℤ get_or u (i + 1 + 1 + 1 + 1 + 1 + 1 + 1) (pos 0) *ℤ get_or u (j + 1 + 1 + 1 + 1 + 1 + 1 + 1) (pos 0))
+pairs-row u i j =
     let e2 : i + 2 ≡ i + 1 + 1 = omega arith in
-    let e3 : i + 3 ≡ i + 1 + 1 + 1 = omega arith in
     let e4 : i + 4 ≡ i + 1 + 1 + 1 + 1 = omega arith in
-    let e5 : i + 5 ≡ i + 1 + 1 + 1 + 1 + 1 = omega arith in
     let e6 : i + 6 ≡ i + 1 + 1 + 1 + 1 + 1 + 1 = omega arith in
-    let e7 : i + 7 ≡ i + 1 + 1 + 1 + 1 + 1 + 1 + 1 = omega arith in
-    let d0 : j + 0 ≡ j = omega arith in
     let d2 : j + 2 ≡ j + 1 + 1 = omega arith in
-    let d3 : j + 3 ≡ j + 1 + 1 + 1 = omega arith in
     let d4 : j + 4 ≡ j + 1 + 1 + 1 + 1 = omega arith in
-    let d5 : j + 5 ≡ j + 1 + 1 + 1 + 1 + 1 = omega arith in
     let d6 : j + 6 ≡ j + 1 + 1 + 1 + 1 + 1 + 1 = omega arith in
-    let d7 : j + 7 ≡ j + 1 + 1 + 1 + 1 + 1 + 1 + 1 = omega arith in
-    rw e0 (rw e2 (rw e3 (rw e4 (rw e5 (rw e6 (rw e7 (rw d0 (rw d2 (rw d3 (rw d4 (rw d5 (rw d6 (rw d7 refl)))))))))))))
+    rw e2 (rw e4 (rw e6 (rw d2 (rw d4 (rw d6 refl)))))
+
+-- ---- sums in lanes, by their bits
+
+-- the products at the same places of n eights
+abbrev pub pair_sum : (ℕ → ℤ) → ℕ → ℕ → ℕ → ℤ
+pair_sum s i j n = signed_sum (λ k. pair_at s (i + 8 * k) (j + 8 * k)) n
+
+abbrev pub bits_in : ℤ → ℕ
+bits_in a = of_z w32 (int_wrap w32 a)
+
+abbrev pub lane_bits : (ℕ → ℤ) → ℕ → ℕ → ℕ → List ℕ
+lane_bits s i j n = bits_in (pair_sum s i j n) ∷ bits_in (pair_sum s (i + 2) (j + 2) n) ∷ bits_in (pair_sum s (i + 4) (j + 4) n) ∷ bits_in (pair_sum s (i + 6) (j + 6) n) ∷ []
+
+pub lanes-none : (s : ℕ → ℤ) (i j : ℕ) → (0 ∷ 0 ∷ 0 ∷ 0 ∷ []) ≡ lane_bits s i j 0
+lanes-none s i j = four-lanes (none i j) (none (i + 2) (j + 2)) (none (i + 4) (j + 4)) (none (i + 6) (j + 6))
+  where
+    none : (a b : ℕ) → 0 ≡ bits_in (pair_sum s a b 0)
+    none a b = ap (of_z w32) wrap-none ∙ ap bits_in (sym (signed_sum-none (λ k. pair_at s (a + 8 * k) (b + 8 * k))))
+
+bits-sum : (a b : ℤ) → (bits_in a + bits_in b) % 2 ^ 32 ≡ bits_in (a +ℤ b)
+bits-sum a b = sym (of_z-to_z w32 ((bits_in a + bits_in b) % 2 ^ 32) (below (bits_in a + bits_in b))) ∙ ap (of_z w32) (wrapping_add_is w32 (int_wrap w32 a) (int_wrap w32 b) (SFits-int_wrap w32 a) (SFits-int_wrap w32 b) ∙ int_wrap-add_left w32 a (int_wrap w32 b) ∙ int_wrap-add_right w32 a b)
+
+pub lanes-more : (s : ℕ → ℤ) (i j k : ℕ) → ((bits_in (pair_sum s i j k) + bits_in (pair_at s (i + 8 * k) (j + 8 * k))) % 2 ^ 32 ∷ (bits_in (pair_sum s (i + 2) (j + 2) k) + bits_in (pair_at s (i + 8 * k + 2) (j + 8 * k + 2))) % 2 ^ 32 ∷ (bits_in (pair_sum s (i + 4) (j + 4) k) + bits_in (pair_at s (i + 8 * k + 4) (j + 8 * k + 4))) % 2 ^ 32 ∷ (bits_in (pair_sum s (i + 6) (j + 6) k) + bits_in (pair_at s (i + 8 * k + 6) (j + 8 * k + 6))) % 2 ^ 32 ∷ []) ≡ lane_bits s i j (k + 1)
+lanes-more s i j k = four-lanes (more i j (i + 8 * k) (j + 8 * k) refl refl) (more (i + 2) (j + 2) (i + 8 * k + 2) (j + 8 * k + 2) (omega arith) (omega arith)) (more (i + 4) (j + 4) (i + 8 * k + 4) (j + 8 * k + 4) (omega arith) (omega arith)) (more (i + 6) (j + 6) (i + 8 * k + 6) (j + 8 * k + 6) (omega arith) (omega arith))
+  where
+    more : (a b x y : ℕ) → x ≡ a + 8 * k → y ≡ b + 8 * k → (bits_in (pair_sum s a b k) + bits_in (pair_at s x y)) % 2 ^ 32 ≡ bits_in (pair_sum s a b (k + 1))
+    more a b x y p q = bits-sum (pair_sum s a b k) (pair_at s x y) ∙ ap bits_in (ap (λ m. pair_sum s a b k +ℤ pair_at s m y) p ∙ ap (λ m. pair_sum s a b k +ℤ pair_at s (a + 8 * k) m) q ∙ sym (signed_sum-more (λ m. pair_at s (a + 8 * m) (b + 8 * m)) k))
+
+-- the pairs of n eights are all of their products
+eight-pairs : (s : ℕ → ℤ) (i j : ℕ) → correlation s s i j 8 ≡ ((pair_at s i j +ℤ pair_at s (i + 2) (j + 2)) +ℤ pair_at s (i + 4) (j + 4)) +ℤ pair_at s (i + 6) (j + 6)
+unfolding signed_sum
+eight-pairs s i j =
+    let e0 : i + 0 ≡ i = omega arith in
+    let e3 : i + 2 + 1 ≡ i + 3 = omega arith in
+    let e5 : i + 4 + 1 ≡ i + 5 = omega arith in
+    let e7 : i + 6 + 1 ≡ i + 7 = omega arith in
+    let d0 : j + 0 ≡ j = omega arith in
+    let d3 : j + 2 + 1 ≡ j + 3 = omega arith in
+    let d5 : j + 4 + 1 ≡ j + 5 = omega arith in
+    let d7 : j + 6 + 1 ≡ j + 7 = omega arith in
+    rw e0 (rw e3 (rw e5 (rw e7 (rw d0 (rw d3 (rw d5 (rw d7 (regrouped (s i *ℤ s j) (s (i + 1) *ℤ s (j + 1)) (s (i + 2) *ℤ s (j + 2)) (s (i + 3) *ℤ s (j + 3)) (s (i + 4) *ℤ s (j + 4)) (s (i + 5) *ℤ s (j + 5)) (s (i + 6) *ℤ s (j + 6)) (s (i + 7) *ℤ s (j + 7))))))))))
+  where
+    regrouped : (a b c d e f g h : ℤ) → (((((((pos 0 +ℤ a) +ℤ b) +ℤ c) +ℤ d) +ℤ e) +ℤ f) +ℤ g) +ℤ h ≡ (((a +ℤ b) +ℤ (c +ℤ d)) +ℤ (e +ℤ f)) +ℤ (g +ℤ h)
+    regrouped a b c d e f g h = omega (arith, ints)
+
+pairs-all : (s : ℕ → ℤ) (i j n : ℕ) → (((pos 0 +ℤ pair_sum s i j n) +ℤ pair_sum s (i + 2) (j + 2) n) +ℤ pair_sum s (i + 4) (j + 4) n) +ℤ pair_sum s (i + 6) (j + 6) n ≡ correlation s s i j (8 * n)
+unfolding signed_sum
+pairs-all s i j zero = refl
+pairs-all s i j (suc n) =
+    let e : 8 * n + 8 ≡ 8 * suc n = omega arith in
+    let t : correlation s s i j (8 * suc n) ≡ correlation s s i j (8 * n) +ℤ correlation s s (i + 8 * n) (j + 8 * n) 8 = sym (ap (correlation s s i j) e) ∙ correlation-join s s i j (8 * n) 8 in
+    closing (pair_sum s i j n) (pair_sum s (i + 2) (j + 2) n) (pair_sum s (i + 4) (j + 4) n) (pair_sum s (i + 6) (j + 6) n) (pair_at s (i + 8 * n) (j + 8 * n)) (pair_at s (i + 2 + 8 * n) (j + 2 + 8 * n)) (pair_at s (i + 4 + 8 * n) (j + 4 + 8 * n)) (pair_at s (i + 6 + 8 * n) (j + 6 + 8 * n)) (correlation s s i j (8 * n)) (correlation s s (i + 8 * n) (j + 8 * n) 8) (correlation s s i j (8 * suc n)) (pairs-all s i j n) (eight-pairs s (i + 8 * n) (j + 8 * n) ∙ moved) t
+  where
+    at : (a b x y : ℕ) → x ≡ a → y ≡ b → pair_at s x y ≡ pair_at s a b
+    at a b x y p q = ap (λ m. pair_at s m y) p ∙ ap (pair_at s a) q
+
+    moved : ((pair_at s (i + 8 * n) (j + 8 * n) +ℤ pair_at s (i + 8 * n + 2) (j + 8 * n + 2)) +ℤ pair_at s (i + 8 * n + 4) (j + 8 * n + 4)) +ℤ pair_at s (i + 8 * n + 6) (j + 8 * n + 6) ≡ ((pair_at s (i + 8 * n) (j + 8 * n) +ℤ pair_at s (i + 2 + 8 * n) (j + 2 + 8 * n)) +ℤ pair_at s (i + 4 + 8 * n) (j + 4 + 8 * n)) +ℤ pair_at s (i + 6 + 8 * n) (j + 6 + 8 * n)
+    moved = λ k. ((pair_at s (i + 8 * n) (j + 8 * n) +ℤ at (i + 2 + 8 * n) (j + 2 + 8 * n) (i + 8 * n + 2) (j + 8 * n + 2) (omega arith) (omega arith) k) +ℤ at (i + 4 + 8 * n) (j + 4 + 8 * n) (i + 8 * n + 4) (j + 8 * n + 4) (omega arith) (omega arith) k) +ℤ at (i + 6 + 8 * n) (j + 6 + 8 * n) (i + 8 * n + 6) (j + 8 * n + 6) (omega arith) (omega arith) k
+
+    closing : (a b c d p q r t m v z : ℤ) → (((pos 0 +ℤ a) +ℤ b) +ℤ c) +ℤ d ≡ m → v ≡ ((p +ℤ q) +ℤ r) +ℤ t → z ≡ m +ℤ v → (((pos 0 +ℤ (a +ℤ p)) +ℤ (b +ℤ q)) +ℤ (c +ℤ r)) +ℤ (d +ℤ t) ≡ z
+    closing a b c d p q r t m v z e f g = omega (arith, ints)
+
+pub lanes-all : (s : ℕ → ℤ) (i j n : ℕ) → to_z w32 (((((((0 + of_z w32 (int_wrap w32 (pair_sum s i j n))) % 2 ^ 32) + of_z w32 (int_wrap w32 (pair_sum s (i + 2) (j + 2) n))) % 2 ^ 32) + of_z w32 (int_wrap w32 (pair_sum s (i + 4) (j + 4) n))) % 2 ^ 32 + of_z w32 (int_wrap w32 (pair_sum s (i + 6) (j + 6) n))) % 2 ^ 32) ≡ int_wrap w32 (correlation s s i j (8 * n))
+lanes-all s i j n =
+    four-is (of_z w32 (int_wrap w32 (pair_sum s i j n))) (of_z w32 (int_wrap w32 (pair_sum s (i + 2) (j + 2) n))) (of_z w32 (int_wrap w32 (pair_sum s (i + 4) (j + 4) n))) (of_z w32 (int_wrap w32 (pair_sum s (i + 6) (j + 6) n))) _ _ _ _ (small (pair_sum s i j n)) (small (pair_sum s (i + 2) (j + 2) n)) (small (pair_sum s (i + 4) (j + 4) n)) (small (pair_sum s (i + 6) (j + 6) n)) (same (pair_sum s i j n)) (same (pair_sum s (i + 2) (j + 2) n)) (same (pair_sum s (i + 4) (j + 4) n)) (same (pair_sum s (i + 6) (j + 6) n))
+    ∙ ap (int_wrap w32) (pairs-all s i j n)
+  where
+    small : (z : ℤ) → of_z w32 (int_wrap w32 z) < 2 ^ 32
+    small z = (laws.of_z_fits w32 (int_wrap w32 z) (SFits-int_wrap w32 z)).fits
+
+    same : (z : ℤ) → to_z w32 (of_z w32 (int_wrap w32 z)) ≡ int_wrap w32 z
+    same z = to_z-of_z w32 (int_wrap w32 z) (SFits-int_wrap w32 z)

@@ -239,3 +239,7 @@ pitch_alike s u f g n a p q h t =
       gain = t.gain ∙ gain_alike s u f g n w;
       tapset = t.tapset;
     }
+
+-- in a list of just those samples
+pub pitch_same : (s u : ℕ → ℤ) (n : ℕ) (a : Setting) → ((i : ℕ) → i < 1022 + n → s i ≡ u i) → IsPitch s 1022 n a → IsPitch u 1022 n a
+pitch_same s u n a h = pitch_alike s u 1022 1022 n a (omega arith) (omega arith) (λ i p. let e : 1022 - 1022 + i ≡ i = omega arith in subst (λ k. s k ≡ u k) (sym e) (h i p))

@@ -1,9 +1,9 @@
 -- From what the search finds to the setting.
 use Rattle.std.proofs.Common.{◌≡◌, ℕ, suc, ◌+◌, ◌*◌, ◌^◌, ◌<◌, ◌≤◌, inl, inr, refl, sym, ap, subst, arith, ◌∙◌, List, length}
-use Rattle.std.specs.Prelude.{◌⊎◌, ℤ, pos, ◌+ℤ◌, unsigned_abs, All, nat_eq, nat_lt, nat_le, take}
+use Rattle.std.specs.Prelude.{◌⊎◌, ℤ, pos, ◌+ℤ◌, unsigned_abs, All, nat_eq, nat_lt, nat_le}
 use Rattle.std.specs.Int.{int_shr}
 use Rattle.std.proofs.Math.Path.{fun_ext}
-use Rattle.std.proofs.lemmas.List.{get_or-take, get_or_past, get_or_default, length-take}
+use Rattle.std.proofs.lemmas.List.{get_or_default}
 use Rattle.std.proofs.lemmas.Nat.{mul-le}
 use Rattle.std.proofs.lemmas.Bool.{cases_lt, cond-true, cond-false, lt-ltb, le-ltb, le-leb, lt-leb, eq-eqb, ne_eqb}
 use Rattle.fixed_math.specs.Items.{item}
@@ -11,7 +11,7 @@ use Rattle.celt_base.specs.declared.state.Setting.{Setting}
 use Rattle.celt_analysis.specs.Pitch.{correlations, energies, best_candidate, gain_steps, gain_for, gain_of, downmix, IsPitch}
 use Rattle.celt_analysis.specs.Search.{IsBestFrom}
 use Rattle.celt_analysis.specs.Sums.{squared, energy}
-use Rattle.celt_analysis.proofs.SumLemmas.{sum_from-le, items_below}
+use Rattle.celt_analysis.proofs.SumLemmas.{sum_from-le, sum_from-same, items_below}
 use Rattle.celt_analysis.proofs.SearchLemmas.{reached, missed, candidate-some, best-found, first_best-candidate}
 
 pub below-wide : (d : List ℤ) → All (λ x. unsigned_abs x ≤ 2 ^ 15) d → All (λ x. unsigned_abs x < 2 ^ 16) d
@@ -64,6 +64,9 @@ gain-found s f n r p b =
           ∙ cond-true (nat_le (energies s f n r * energy s f n) (2 * (correlations s f n r * correlations s f n r))) (3072 * gain_steps (correlations s f n r) (energies s f n r) 8) 0 (le-leb (energies s f n r * energy s f n) (2 * (correlations s f n r * correlations s f n r)) (omega (arith, t.above))),
     )
 
+pub best-carried : (s : ℕ → ℤ) (m n o r : ℕ) → m ≡ n → o ≡ energy s 1022 n → IsBestFrom (correlations s 1022 m) (energies s 1022 m) o 2 1008 r → IsBestFrom (correlations s 1022 n) (energies s 1022 n) (energy s 1022 n) 2 1008 r
+best-carried s m n o r e g b = subst (λ k. IsBestFrom (correlations s 1022 k) (energies s 1022 k) (energy s 1022 n) 2 1008 r) e (subst (λ q. IsBestFrom (correlations s 1022 m) (energies s 1022 m) q 2 1008 r) g b)
+
 pub pitch-off : (s : ℕ → ℤ) (f n : ℕ) (r : Setting) → gain_of s f n ≡ 0 → r.period ≡ 15 → r.gain ≡ 0 → r.tapset ≡ 0 → IsPitch s f n r
 pitch-off s f n r g p q t = record {
   period = p ∙ sym (cond-false (nat_lt 0 (gain_of s f n)) (15 + best_candidate s f n) 15 (le-ltb 0 (gain_of s f n) (omega arith)));
@@ -78,28 +81,19 @@ pitch-on s f n i k r e g l p q t = record {
   tapset = t;
 }
 
--- ---- the window
+-- ---- the same numbers in 64 bits
 
--- A list whose first m items are f's, and f being 0 behind them: the list cut to m items is f.
-pub cut-is : (f : ℕ → ℤ) (d : List ℤ) (m : ℕ) → length d ≡ 1982 → m ≤ 1982 → ((i : ℕ) → i < m → item d i ≡ f i) → ((i : ℕ) → m ≤ i → f i ≡ pos 0) → item (take m d) ≡ f
-cut-is f d m l p h z = fun_ext (λ i. at i (cases_lt i m))
+pub wide-within : (w d : List ℤ) → ((i : ℕ) → i < length d → item w i ≡ item d i) → ((i : ℕ) → length d ≤ i → item w i ≡ pos 0) → All (λ x. unsigned_abs x ≤ 2 ^ 15) d → All (λ x. unsigned_abs x ≤ 2 ^ 15) w
+wide-within w d h z b = λ i x p. subst (λ y. unsigned_abs y ≤ 2 ^ 15) (sym (get_or_default w i x (pos 0) p)) (at i (cases_lt i (length d)))
   where
-    at : (i : ℕ) → (i < m) ⊎ (m ≤ i) → item (take m d) i ≡ f i
-    at i (inl q) = get_or-take m d i (pos 0) q ∙ h i q
-    at i (inr q) = get_or_past (take m d) i (pos 0) (omega (arith, length-take m d)) ∙ sym (z i q)
+    at : (i : ℕ) → (i < length d) ⊎ (length d ≤ i) → unsigned_abs (item w i) ≤ 2 ^ 15
+    at i (inl q) = subst (λ y. unsigned_abs y ≤ 2 ^ 15) (sym (h i q)) (b i (pos 0) q)
+    at i (inr q) = subst (λ y. unsigned_abs y ≤ 2 ^ 15) (sym (z i q)) (omega arith)
 
-pub cut-within : (d : List ℤ) (m : ℕ) → ((i : ℕ) → unsigned_abs (item d i) ≤ 2 ^ 15) → All (λ x. unsigned_abs x ≤ 2 ^ 15) (take m d)
-cut-within d m h = λ i x p.
-    elim (cases_lt i m) [
-      | inl q ↦ subst (λ z. unsigned_abs z ≤ 2 ^ 15) (sym (get_or_default (take m d) i x (pos 0) p ∙ get_or-take m d i (pos 0) q)) (h i)
-      | inr q ↦ absurd (omega (arith, length-take m d))
-    ]
+pub wide-energy : (w d : List ℤ) (a n : ℕ) → a + n ≤ length d → ((i : ℕ) → i < length d → item w i ≡ item d i) → energy (item w) a n ≡ energy (item d) a n
+wide-energy w d a n l h = sum_from-same (λ i. squared (item w i)) (λ i. squared (item d i)) a a n (λ i p. ap squared (h (a + i) (omega arith)))
 
-pub downmix-single : (w : List ℤ) (n : ℕ) → length w ≡ 1145 + n → (i : ℕ) → 1022 + n ≤ i → item w (123 + i) ≡ pos 0
-downmix-single w n l i p = get_or_past w (123 + i) (pos 0) (omega arith)
-
-pub downmix-mixed : (w : List ℤ) (n : ℕ) → length w ≡ 2 * (1145 + n) → (i : ℕ) → 1022 + n ≤ i → int_shr (item w (2 * (123 + i)) +ℤ item w (2 * (123 + i) + 1)) 1 ≡ pos 0
-downmix-mixed w n l i p = ap (λ z. int_shr (z +ℤ item w (2 * (123 + i) + 1)) 1) (get_or_past w (2 * (123 + i)) (pos 0) (omega arith)) ∙ ap (λ z. int_shr (pos 0 +ℤ z) 1) (get_or_past w (2 * (123 + i) + 1) (pos 0) (omega arith))
+-- ---- the window
 
 pub downmix-one : (channels : ℕ) (w : ℕ → ℤ) → channels ≡ 1 → downmix channels w ≡ (λ i. w (123 + i))
 unfolding downmix
@@ -108,14 +102,3 @@ downmix-one channels w e = fun_ext (λ i. cond-true (nat_eq channels 1) (w (123 
 pub downmix-two : (channels : ℕ) (w : ℕ → ℤ) → channels ≡ 2 → downmix channels w ≡ (λ i. int_shr (w (2 * (123 + i)) +ℤ w (2 * (123 + i) + 1)) 1)
 unfolding downmix
 downmix-two channels w e = fun_ext (λ i. cond-false (nat_eq channels 1) (w (123 + i)) (int_shr (w (2 * (123 + i)) +ℤ w (2 * (123 + i) + 1)) 1) (ne_eqb channels 1 (λ q. absurd (omega arith))))
-
--- the samples that are cut from a window of one channel are those of the definition, and so are the middles of two
-pub single-is : (w d : List ℤ) (channels n : ℕ) → channels ≡ 1 → n ≤ 960 → length w ≡ channels * (1145 + n) → length d ≡ 1982 → ((i : ℕ) → i < 1022 + n → item d i ≡ item w (123 + i)) → item (take (1022 + n) d) ≡ downmix channels (item w)
-single-is w d channels n one c l k h =
-    let m : length w ≡ 1145 + n = l ∙ ap (λ j. j * (1145 + n)) one ∙ omega arith in
-    cut-is (λ i. item w (123 + i)) d (1022 + n) k (omega arith) h (downmix-single w n m) ∙ sym (downmix-one channels (item w) one)
-
-pub mixed-is : (w d : List ℤ) (channels n : ℕ) → channels ≡ 2 → n ≤ 960 → length w ≡ channels * (1145 + n) → length d ≡ 1982 → ((i : ℕ) → i < 1022 + n → item d i ≡ int_shr (item w (2 * (123 + i)) +ℤ item w (2 * (123 + i) + 1)) 1) → item (take (1022 + n) d) ≡ downmix channels (item w)
-mixed-is w d channels n two c l k h =
-    let m : length w ≡ 2 * (1145 + n) = l ∙ ap (λ j. j * (1145 + n)) two in
-    cut-is (λ i. int_shr (item w (2 * (123 + i)) +ℤ item w (2 * (123 + i) + 1)) 1) d (1022 + n) k (omega arith) h (downmix-mixed w n m) ∙ sym (downmix-two channels (item w) two)

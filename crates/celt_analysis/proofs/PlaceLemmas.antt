@@ -53,21 +53,21 @@ put-more f old xs to i v l e h = record {
         let ne : k ≢ to + i = λ g. absurd (omega arith) in
         get_or-set_other xs (to + i) k v (pos 0) ne ∙ h.others k (inr (omega arith))
 
--- the first i places hold f, and those behind them 0
-pub record Filled (f : ℕ → ℤ) (xs : List ℤ) (n i : ℕ) : Type 0 where
+-- the first i places hold f, and those behind them what they did
+pub record Over (f : ℕ → ℤ) (old xs : List ℤ) (i : ℕ) : Type 0 where
   pub done : (k : ℕ) → k < i → item xs k ≡ f k
-  pub ahead : (k : ℕ) → i ≤ k → item xs k ≡ pos 0
-  pub length : length xs ≡ n
+  pub ahead : (k : ℕ) → i ≤ k → item xs k ≡ item old k
+  pub length : length xs ≡ length old
 
-pub filled-start : (f : ℕ → ℤ) (n : ℕ) → Filled f (replicate n (pos 0)) n 0
-filled-start f n = record {
+pub over-start : (f : ℕ → ℤ) (xs : List ℤ) → Over f xs xs 0
+over-start f xs = record {
   done = λ k p. absurd (omega arith);
-  ahead = λ k p. item-zeros n k;
-  length = length-replicate n (pos 0);
+  ahead = λ k p. refl;
+  length = refl;
 }
 
-pub filled-more : (f : ℕ → ℤ) (xs : List ℤ) (n i : ℕ) (v : ℤ) → i < n → v ≡ f i → Filled f xs n i → Filled f (slice_set xs i v) n (i + 1)
-filled-more f xs n i v l e h = record {
+pub over-more : (f : ℕ → ℤ) (old xs : List ℤ) (i : ℕ) (v : ℤ) → i < length old → v ≡ f i → Over f old xs i → Over f old (slice_set xs i v) (i + 1)
+over-more f old xs i v l e h = record {
   done = λ k p. upto k (cases_eq k i) p;
   ahead = λ k p. behind k p;
   length = length-set xs i v ∙ h.length;
@@ -81,7 +81,7 @@ filled-more f xs n i v l e h = record {
           | inr r ↦ absurd (q (omega arith))
         ]
 
-    behind : (k : ℕ) → i + 1 ≤ k → item (slice_set xs i v) k ≡ pos 0
+    behind : (k : ℕ) → i + 1 ≤ k → item (slice_set xs i v) k ≡ item old k
     behind k p =
         let ne : k ≢ i = λ g. absurd (omega arith) in
         get_or-set_other xs i k v (pos 0) ne ∙ h.ahead k (omega arith)

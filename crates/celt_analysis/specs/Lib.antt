@@ -3,6 +3,7 @@ pub mod Batches
 pub mod Channels
 pub mod Energies
 pub mod Inputs
+pub mod Lanes
 pub mod Pitch
 pub mod Search
 pub mod Signals

@@ -1,6 +1,7 @@
 -- What a search of candidates finds, c being their correlations and e their energies.
-use Rattle.std.specs.Prelude.{◌≡◌, ℕ, ◌+◌, ◌*◌, ◌<◌, ◌≤◌, nat_lt, Bool, true, false, ◌&&◌}
+use Rattle.std.specs.Prelude.{◌≡◌, ℕ, ◌+◌, ◌-◌, ◌*◌, ◌<◌, ◌≤◌, nat_lt, Bool, true, false, ◌&&◌, ℤ, ◌-ℤ◌, ◌*ℤ◌, unsigned_abs}
 use Rattle.celt_analysis.specs.Pitch.{is_candidate}
+use Rattle.celt_analysis.specs.Sums.{correlation}
 
 -- A candidate's square of the correlation over its energy is above s over o; with a slack of 1 it may be equal.
 abbrev pub reaches : ℕ → ℕ → ℕ → ℕ → ℕ → Bool
@@ -26,3 +27,12 @@ pub record IsBestFrom (c e : ℕ → ℕ) (s o n r : ℕ) : Type 0 where
   pub none : r ≡ n → (i : ℕ) → i < n → reaches 1 s o (c i) (e i) ≡ false
   pub best : r < n → IsBest c e n r
   pub met : r < n → reaches 1 s o (c r) (e r) ≡ true
+
+-- The estimate of a correlation, in steps, is at most the error away from it: at the lag of 15 + i, for a frame of n samples
+-- of s behind 1022 others.
+abbrev pub IsNear : (ℕ → ℤ) → ℕ → ℕ → ℤ → ℤ → ℤ → Type 0
+IsNear s n i sum scale error = unsigned_abs (correlation s s 1022 (1022 - (15 + i)) n -ℤ sum *ℤ scale) ≤ unsigned_abs error
+
+-- estimates that stand at the places of the samples before
+abbrev pub AreNear : (ℕ → ℤ) → ℕ → (ℕ → ℤ) → ℤ → ℤ → Type 0
+AreNear s n sums scale error = (i : ℕ) → i < 1008 → IsNear s n i (sums (1022 - (15 + i))) scale error

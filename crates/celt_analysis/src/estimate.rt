@@ -1,37 +1,50 @@
-//! Upper bounds of the correlations at all lags, from samples that are quantized to 11 bits.
-ghost use Rattle.std.specs.Prelude.{◌≡◌, ℕ, ◌+◌, ◌-◌, ◌*◌, ◌/◌, ◌^◌, ◌<◌, ◌≤◌, All, ℤ, pos, ◌+ℤ◌, ◌*ℤ◌, ◌≤ℤ◌, unsigned_abs, length, slice_index};
-ghost use Rattle.std.specs.Int.{int_shr};
+//! Estimates of the correlations at all lags, from samples that are quantized to 11 bits.
+ghost use Rattle.std.specs.Prelude.{◌≡◌, ◌⊎◌, ℕ, ◌+◌, ◌*◌, ◌/◌, ◌%◌, ◌^◌, ◌<◌, ◌≤◌, All, ℤ, pos, ◌+ℤ◌, ◌≤ℤ◌, unsigned_abs, FitsSigned, length};
+ghost use Rattle.std.specs.Int.{int_shr, w16};
 ghost use Rattle.fixed_math.specs.Items.{item};
-ghost use Rattle.celt_analysis.specs.Pitch.{positive_part, correlations};
+ghost use Rattle.celt_analysis.specs.Search.{AreNear};
 ghost use Rattle.celt_analysis.specs.Sums.{correlation, magnitude};
 
 use crate::karatsuba::{Part, correlate};
-use crate::search::{BEFORE, LAGS};
+use crate::search::BEFORE;
 
-// The places of a list of quantized samples.
-const PLACES: usize = 2048;
+// How near the estimates of a frame's correlations are: a correlation is its estimate in steps, and at most the error away.
+#[derive(Clone, Copy)]
+pub(crate) struct Estimate {
+    // the samples of the frame
+    pub n: usize,
+    // a step of the estimates
+    pub scale: i64,
+    pub error: i64,
+    ghost size: { n ≤ 960 },
+    ghost whole: { n % 8 ≡ 0 },
+    ghost scale_size: { unsigned_abs scale ≤ 2 ^ 10 },
+    ghost error_sign: { pos 0 ≤ℤ error },
+    ghost error_size: { unsigned_abs error < 2 ^ 31 },
+}
+
 // The sum of the sizes of `n` samples from place `a` on.
-fn magnitude_from(d: &[i64], a: usize, n: usize) -> u64
+fn magnitude_from(d: &[i16], a: usize, n: usize) -> u32
     requires items { All (λ x. unsigned_abs x ≤ 2 ^ 15) d.now }
     requires count { n ≤ 1982 }
     requires within { a + n ≤ length d.now }
     ensures value { result ≡ magnitude (item d.now) a n }
     ensures size { result ≤ n * 2 ^ 15 }
 {
-    let mut sum: u64 = 0;
+    let mut sum: u32 = 0;
     for i in 0..n {
-        sum += d[a + i].unsigned_abs();
+        sum += d[a + i].unsigned_abs() as u32;
     }
     sum
 }
 
 // The greatest size.
-fn peak(d: &[i64]) -> u64
-    requires { All (λ x. unsigned_abs x ≤ 2 ^ 15) d.now }
+pub(crate) fn peak(d: &[i16]) -> u16
     ensures bound { All (λ x. unsigned_abs x ≤ result) d.now }
     ensures size { result ≤ 2 ^ 15 }
+    ensures fits { (k : ℕ) → k < length d.now → FitsSigned w16 (item d.now k) }
 {
-    let mut most: u64 = 0;
+    let mut most: u16 = 0;
     for i in 0..d.len() {
         let size = d[i].unsigned_abs();
         if most < size {
@@ -43,14 +56,14 @@ fn peak(d: &[i64]) -> u64
 
 // A quantizer with steps of 2^shift: half a step, and the step's square.
 #[derive(Clone, Copy)]
-pub(crate) struct Quantizer {
+struct Quantizer {
     shift: u32,
-    half: i64,
+    half: i32,
     scale: i64,
 }
 
 // The quantizer for samples up to a size.
-fn quantizer_for(most: u64) -> Quantizer
+fn quantizer_for(most: u16) -> Quantizer
     requires { most ≤ 2 ^ 15 }
     ensures shift { result.shift ≤ 5 }
     ensures half { result.half ≡ pos (2 ^ result.shift / 2) }
@@ -102,32 +115,32 @@ fn quantizer_for(most: u64) -> Quantizer
 }
 
 // A sample in steps, rounded.
-fn quantized(x: i64, c: Quantizer) -> i16
-    requires shift { c.shift ≤ 5 }
-    requires half { c.half ≡ pos (2 ^ c.shift / 2) }
-    requires size { unsigned_abs x + 2 ^ c.shift / 2 < 1448 * 2 ^ c.shift }
-    ensures value { result ≡ int_shr (x +ℤ pos (2 ^ c.shift / 2)) c.shift }
+fn quantized(x: i16, q: Quantizer) -> i16
+    requires shift { q.shift ≤ 5 }
+    requires half { q.half ≡ pos (2 ^ q.shift / 2) }
+    requires size { unsigned_abs x + 2 ^ q.shift / 2 < 1448 * 2 ^ q.shift }
+    ensures value { result ≡ int_shr (x +ℤ pos (2 ^ q.shift / 2)) q.shift }
     ensures size { unsigned_abs result ≤ 1448 }
 {
-    ((x + c.half) >> c.shift) as i16
+    ((x as i32 + q.half) >> q.shift) as i16
 }
 
-// `n` samples from place `a` on, quantized, and zeros behind them.
-fn quantize(d: &[i64], a: usize, n: usize, c: Quantizer) -> [i16; PLACES]
-    requires shift { c.shift ≤ 5 }
-    requires half { c.half ≡ pos (2 ^ c.shift / 2) }
-    requires sizes { (i : ℕ) → unsigned_abs (item d.now i) + 2 ^ c.shift / 2 < 1448 * 2 ^ c.shift }
-    requires count { n ≤ 2048 }
+// Writes `n` samples from place `a` on, quantized, from place `to` on.
+fn quantize(d: &[i16], a: usize, n: usize, q: Quantizer, s: &mut [i16], to: usize)
+    requires shift { q.shift ≤ 5 }
+    requires half { q.half ≡ pos (2 ^ q.shift / 2) }
+    requires sizes { (i : ℕ) → unsigned_abs (item d.now i) + 2 ^ q.shift / 2 < 1448 * 2 ^ q.shift }
     requires within { a + n ≤ length d.now }
-    ensures items { (i : ℕ) → i < n → item result i ≡ int_shr (item d.now (a + i) +ℤ pos (2 ^ c.shift / 2)) c.shift }
-    ensures ahead { (i : ℕ) → n ≤ i → item result i ≡ pos 0 }
-    ensures sizes { (i : ℕ) → unsigned_abs (item result i) ≤ 1448 }
+    requires room { to + n ≤ length s.old }
+    requires old_sizes { (i : ℕ) → unsigned_abs (item s.old i) ≤ 1448 }
+    ensures items { (i : ℕ) → i < n → item s.new (to + i) ≡ int_shr (item d.now (a + i) +ℤ pos (2 ^ q.shift / 2)) q.shift }
+    ensures others { (k : ℕ) → (k < to) ⊎ (to + n ≤ k) → item s.new k ≡ item s.old k }
+    ensures length { length s.new ≡ length s.old }
+    ensures sizes { (i : ℕ) → unsigned_abs (item s.new i) ≤ 1448 }
 {
-    let mut out = [0i16; PLACES];
     for i in 0..n {
-        out[i] = quantized(d[a + i], c);
+        s[to + i] = quantized(d[a + i], q);
     }
-    out
 }
 
 // How many places are done at once: the least of 128, 256, 512 and 1024 that is not below `n`.
@@ -173,88 +186,62 @@ fn blocks_for(n: usize) -> Blocks
     }
 }
 
-// Both lists one behind the other, and room.
-fn joined(x: &[i16; PLACES], v: &[i16; PLACES]) -> [i16; 8192]
-    requires x_sizes { (i : ℕ) → unsigned_abs (item x.now i) ≤ 1448 }
-    requires v_sizes { (i : ℕ) → unsigned_abs (item v.now i) ≤ 1448 }
-    ensures first { (i : ℕ) → i < 2048 → item result i ≡ item x.now i }
-    ensures second { (i : ℕ) → i < 1024 → item result (2048 + i) ≡ item v.now i }
-    ensures sizes { (i : ℕ) → unsigned_abs (item result i) ≤ 1448 }
-{
-    let mut s = [0i16; 8192];
-    for i in 0..PLACES {
-        s[i] = x[i];
-    }
-    for j in 0..1024usize {
-        s[PLACES + j] = v[j];
-    }
-    s
-}
-
-// The sums of products at all places.
-fn estimates(x: &[i16; PLACES], v: &[i16; PLACES], n: usize) -> [i32; PLACES]
+// The correlations at 1024 places with the `n` samples from place 2048 on, behind which are zeros.
+fn correlations(s: &mut [i16], n: usize, out: &mut [i32])
     requires count { n ≤ 960 }
-    requires x_sizes { (i : ℕ) → unsigned_abs (item x.now i) ≤ 1448 }
-    requires v_sizes { (i : ℕ) → unsigned_abs (item v.now i) ≤ 1448 }
-    requires ahead { (i : ℕ) → n ≤ i → item v.now i ≡ pos 0 }
-    ensures { (t : ℕ) → t < 1024 → item result t ≡ correlation (item x.now) (item v.now) t 0 n }
+    requires sizes { (i : ℕ) → unsigned_abs (item s.old i) ≤ 1448 }
+    requires ahead { (i : ℕ) → n ≤ i → i < 1024 → item s.old (2048 + i) ≡ pos 0 }
+    requires s_length { length s.old ≡ 8192 }
+    requires length { length out.old ≡ 2048 }
+    ensures items { (t : ℕ) → t < 1024 → item out.new t ≡ correlation (item s.old) (item s.old) t 2048 n }
+    ensures length { length out.new ≡ 2048 }
 {
     let run = blocks_for(n);
-    let mut s = joined(x, v);
-    let mut out = [0i32; PLACES];
     for b in 0..run.count {
         let at = b * run.places;
         let part = Part {
             at,
-            from: PLACES,
+            from: 2048,
             places: run.places,
             halvings: run.halvings,
         };
-        correlate(&mut s, part, 3072, &mut out, at, 1024);
+        correlate(s, part, 3072, out, at, 1024);
     }
-    out
 }
 
-// A bound from a sum of products of quantized samples; 0 where it is below 0.
-fn bound_of(sum: i32, scale: i64, error: i64) -> u64
-    requires scale { unsigned_abs scale ≤ 2 ^ 10 }
-    requires error { unsigned_abs error < 2 ^ 32 }
-    ensures value { result ≡ positive_part (sum *ℤ scale +ℤ error) }
-    ensures size { result < 2 ^ 43 }
-{
-    let z = (sum as i64) * scale + error;
-    if z > 0 { z.unsigned_abs() } else { 0 }
-}
-
-// How far a correlation can be above the scaled sum of products, half being half a step.
-fn error_of(d: &[i64], n: usize, half: u64) -> i64
+// How far a correlation can be from its estimate, half being half a step.
+fn error_of(d: &[i16], n: usize, half: u32) -> i64
     requires items { All (λ x. unsigned_abs x ≤ 2 ^ 15) d.now }
     requires count { n ≤ 960 }
     requires length { length d.now ≡ 1022 + n }
     requires half { half ≤ 16 }
     ensures value { result ≡ pos (half * (magnitude (item d.now) 1022 n + magnitude (item d.now) 0 (1022 + n)) + n * (half * half)) }
-    ensures size { unsigned_abs result < 2 ^ 32 }
+    ensures size { unsigned_abs result < 2 ^ 31 }
 {
     let all = magnitude_from(d, BEFORE, n) + magnitude_from(d, 0, BEFORE + n);
-    (half * all + (n as u64) * (half * half)) as i64
+    (half * all + (n as u32) * (half * half)) as i64
 }
 
-// Upper bounds of the correlations at all lags.
-pub(crate) fn bounds(d: &[i64], n: usize) -> [u64; LAGS]
-    requires items { All (λ x. unsigned_abs x ≤ 2 ^ 15) d.now }
+// Writes estimates of the correlations with the samples from each place before the frame on.
+pub(crate) fn estimate_all(d: &[i16], n: usize, most: u16, out: &mut [i32]) -> Estimate
+    requires bound { All (λ x. unsigned_abs x ≤ most) d.now }
+    requires most { most ≤ 2 ^ 15 }
     requires count { n ≤ 960 }
+    requires whole { n % 8 ≡ 0 }
     requires length { length d.now ≡ 1022 + n }
-    ensures most { (i : ℕ) → i < 1008 → correlations (item d.now) 1022 n i ≤ slice_index result i }
-    ensures sizes { (i : ℕ) → i < 1008 → slice_index result i < 2 ^ 43 }
+    requires room { length out.old ≡ 2048 }
+    ensures n { result.n ≡ n }
+    ensures near { AreNear (item d.now) n (item out.new) result.scale result.error }
+    ensures length { length out.new ≡ 2048 }
 {
-    let c = quantizer_for(peak(d));
-    let x = quantize(d, 0, BEFORE + n, c);
-    let v = quantize(d, BEFORE, n, c);
-    let sums = estimates(&x, &v, n);
-    let error = error_of(d, n, c.half.unsigned_abs());
-    let mut out = [0u64; LAGS];
-    for i in 0..LAGS {
-        out[i] = bound_of(sums[BEFORE - (15 + i)], c.scale, error);
+    let q = quantizer_for(most);
+    let mut s = [0i16; 8192];
+    quantize(d, 0, BEFORE + n, q, &mut s, 0);
+    quantize(d, BEFORE, n, q, &mut s, 2048);
+    correlations(&mut s, n, out);
+    Estimate {
+        n,
+        scale: q.scale,
+        error: error_of(d, n, q.half.unsigned_abs()),
     }
-    out
 }

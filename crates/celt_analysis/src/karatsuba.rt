@@ -1,11 +1,11 @@
 //! Correlations of a list with another at each of many places, modulo 2^32, by the method of Karatsuba: three of half the
 //! size in place of four, down to 64 places.
-ghost use Rattle.std.specs.Prelude.{◌≡◌, ◌⊎◌, ℕ, ◌+◌, ◌-◌, ◌*◌, ◌^◌, ◌<◌, ◌≤◌, ℤ, pos, ◌+ℤ◌, ◌-ℤ◌, unsigned_abs, length};
-ghost use Rattle.std.specs.Int.{int_wrap, w32};
+ghost use Rattle.std.specs.Prelude.{◌≡◌, ◌⊎◌, ℕ, ◌+◌, ◌-◌, ◌*◌, ◌^◌, ◌<◌, ◌≤◌, ℤ, pos, ◌+ℤ◌, ◌-ℤ◌, unsigned_abs, FitsSigned, length};
+ghost use Rattle.std.specs.Int.{int_wrap, w16, w32};
 ghost use Rattle.fixed_math.specs.Items.{item};
 ghost use Rattle.celt_analysis.specs.Sums.{correlation};
 
-use std::simd::prelude::*;
+use crate::lanes::sixty_four;
 
 // The fewest places.
 const FEWEST: usize = 64;
@@ -55,49 +55,19 @@ fn add_all(out: &mut [i32], to: usize, from: usize, n: usize)
     }
 }
 
-// A sum of eight products, formed side by side.
-fn eight(s: &[i16], i: usize, j: usize, free: usize) -> i32
-    requires first { i + 8 ≤ free }
-    requires second { j + 8 ≤ free }
-    requires free { free ≤ length s.now }
-    requires sizes { (k : ℕ) → k < free → unsigned_abs (item s.now k) < 2 ^ 15 }
-    ensures { result ≡ int_wrap w32 (correlation (item s.now) (item s.now) i j 8) }
-{
-    let a = i16x8::from_slice(&s[i..]);
-    let b = i16x8::from_slice(&s[j..]);
-    let products = a.cast::<i32>() * b.cast::<i32>();
-    let pairs = products.swizzle([0, 2, 4, 6]) + products.swizzle([1, 3, 5, 7]);
-    pairs.reduce_sum()
-}
-
-// A sum of 64 products.
-fn product_sum(s: &[i16], at: usize, from: usize, free: usize) -> i32
-    requires first { at + 64 ≤ free }
-    requires second { from + 64 ≤ free }
-    requires free { free ≤ length s.now }
-    requires sizes { (k : ℕ) → k < free → unsigned_abs (item s.now k) < 2 ^ 15 }
-    ensures { result ≡ int_wrap w32 (correlation (item s.now) (item s.now) at from 64) }
-{
-    let mut sum: i32 = 0;
-    for k in 0..8usize {
-        sum = sum.wrapping_add(eight(s, at + 8 * k, from + 8 * k, free));
-    }
-    sum
-}
-
 // The sums at 64 places.
 fn correlate_short(s: &[i16], at: usize, from: usize, free: usize, out: &mut [i32], to: usize)
     requires first { at + 128 ≤ free }
     requires second { from + 64 ≤ free }
     requires free { free ≤ length s.now }
-    requires sizes { (k : ℕ) → k < free → unsigned_abs (item s.now k) < 2 ^ 15 }
+    requires fits { (k : ℕ) → k < free → FitsSigned w16 (item s.now k) }
     requires room { to + 64 ≤ length out.old }
     ensures items { (t : ℕ) → t < 64 → item out.new (to + t) ≡ int_wrap w32 (correlation (item s.now) (item s.now) (at + t) from 64) }
     ensures others { (k : ℕ) → (k < to) ⊎ (to + 64 ≤ k) → item out.new k ≡ item out.old k }
     ensures length { length out.new ≡ length out.old }
 {
     for t in 0..FEWEST {
-        out[to + t] = product_sum(s, at + t, from, free);
+        out[to + t] = sixty_four(s, at + t, from, free);
     }
 }
 

@@ -10,6 +10,7 @@ mod emphasis;
 mod energies;
 mod estimate;
 mod karatsuba;
+mod lanes;
 mod laws;
 mod measures;
 mod pitch_laws;

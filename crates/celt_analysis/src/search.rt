@@ -1,11 +1,13 @@
-//! The lag with the greatest square of the correlation over the energy. Most lags are ruled out by a bound of their
+//! The lag with the greatest square of the correlation over the energy. Most lags are ruled out by an upper bound of their
 //! correlation, and the correlation of the others is formed.
-ghost use Rattle.std.specs.Prelude.{◌≡◌, ℕ, ◌+◌, ◌-◌, ◌*◌, ◌^◌, ◌<◌, ◌≤◌, All, ℤ, pos, unsigned_abs, length, slice_index};
+ghost use Rattle.std.specs.Prelude.{◌≡◌, ℕ, ◌+◌, ◌-◌, ◌*◌, ◌^◌, ◌<◌, ◌≤◌, ℤ, ◌+ℤ◌, ◌-ℤ◌, ◌*ℤ◌, unsigned_abs, FitsSigned, length, slice_index};
+ghost use Rattle.std.specs.Int.{int_wrap, w16, w32};
 ghost use Rattle.fixed_math.specs.Items.{item};
-ghost use Rattle.celt_analysis.specs.Pitch.{correlation_at, correlations, energies};
-ghost use Rattle.celt_analysis.specs.Search.{reaches, IsNext, IsBestFrom};
+ghost use Rattle.celt_analysis.specs.Pitch.{positive_part, correlations, energies, gain_steps};
+ghost use Rattle.celt_analysis.specs.Search.{reaches, AreNear, IsNear, IsNext, IsBestFrom};
 
-use crate::sums::correlation_from;
+use crate::estimate::Estimate;
+use crate::lanes::product_sum;
 
 // The samples before the frame: the greatest lag.
 pub(crate) const BEFORE: usize = 1022;
@@ -53,66 +55,86 @@ impl Ratio {
     }
 }
 
-// The correlation at the lag of 15 + `i`; 0 where it is below 0.
-pub(crate) fn correlation_of(d: &[i64], n: usize, i: usize) -> u64
-    requires items { All (λ x. unsigned_abs x < 2 ^ 16) d.now }
-    requires count { n ≤ 960 }
-    requires length { length d.now ≡ 1022 + n }
-    requires lag { i < 1008 }
-    ensures value { result ≡ correlations (item d.now) 1022 n i }
+// A number that is above 0, and 0 for each other.
+fn positive(z: i64) -> u64
+    ensures { result ≡ positive_part z }
+{
+    if z > 0 { z.unsigned_abs() } else { 0 }
+}
+
+// An upper bound of a correlation, from its estimate.
+fn bound_of(sum: i32, e: Estimate) -> u64
+    ensures value { result ≡ positive_part (sum *ℤ e.scale +ℤ e.error) }
     ensures size { result < 2 ^ 43 }
 {
-    let c = correlation_from(d, BEFORE, BEFORE - (15 + i), n);
-    if c > 0 { c.unsigned_abs() } else { 0 }
+    positive((sum as i64) * e.scale + e.error)
+}
+
+// A number from its estimate, and what it is modulo 2^32.
+fn exact(sum: i32, scale: i64, low: i32) -> i64
+    requires scale { unsigned_abs scale ≤ 2 ^ 10 }
+    ensures { (c : ℤ) → low ≡ int_wrap w32 c → unsigned_abs (c -ℤ sum *ℤ scale) < 2 ^ 31 → result ≡ c }
+{
+    let near = sum.wrapping_mul(scale as i32);
+    (sum as i64) * scale + low.wrapping_sub(near) as i64
+}
+
+// The correlation at the lag of 15 + `i`; 0 where it is below 0.
+fn correlation_of(d: &[i16], e: Estimate, sum: i32, i: usize) -> u64
+    requires fits { (k : ℕ) → k < length d.now → FitsSigned w16 (item d.now k) }
+    requires length { length d.now ≡ 1022 + e.n }
+    requires lag { i < 1008 }
+    requires near { IsNear (item d.now) e.n i sum e.scale e.error }
+    ensures value { result ≡ correlations (item d.now) 1022 e.n i }
+    ensures size { result < 2 ^ 43 }
+{
+    let low = product_sum(d, BEFORE, BEFORE - (15 + i), e.n);
+    positive(exact(sum, e.scale, low))
 }
 
 // Whether a lag reaches the ratio; its correlation is formed only where the bound of it does.
-fn reaches_ratio(d: &[i64], n: usize, i: usize, bounds: u64, energy: u64, ratio: Ratio) -> bool
-    requires items { All (λ x. unsigned_abs x < 2 ^ 16) d.now }
-    requires count { n ≤ 960 }
-    requires length { length d.now ≡ 1022 + n }
+fn reaches_ratio(d: &[i16], e: Estimate, sum: i32, i: usize, energy: u64, ratio: Ratio) -> bool
+    requires fits { (k : ℕ) → k < length d.now → FitsSigned w16 (item d.now k) }
+    requires length { length d.now ≡ 1022 + e.n }
     requires lag { i < 1008 }
-    requires bounds { correlations (item d.now) 1022 n i ≤ bounds }
-    requires bounds_size { bounds < 2 ^ 43 }
-    requires energy { energy ≡ energies (item d.now) 1022 n i }
+    requires near { IsNear (item d.now) e.n i sum e.scale e.error }
+    requires energy { energy ≡ energies (item d.now) 1022 e.n i }
     requires energy_size { energy ≤ 2 ^ 40 }
     requires slack { ratio.slack ≤ 1 }
     requires square { ratio.square < 2 ^ 86 }
     requires ratio { ratio.energy ≤ 2 ^ 40 }
-    ensures { result ≡ reaches ratio.slack ratio.square ratio.energy (correlations (item d.now) 1022 n i) (energies (item d.now) 1022 n i) }
+    ensures { result ≡ reaches ratio.slack ratio.square ratio.energy (correlations (item d.now) 1022 e.n i) (energies (item d.now) 1022 e.n i) }
 {
-    if !ratio.is_reached(bounds, energy) {
+    if !ratio.is_reached(bound_of(sum, e), energy) {
         return false;
     }
-    ratio.is_reached(correlation_of(d, n, i), energy)
+    ratio.is_reached(correlation_of(d, e, sum, i), energy)
 }
 
 // The first lag from `from` on that reaches the ratio.
 fn next_reaching(
-    d: &[i64],
-    n: usize,
-    bounds: &[u64],
+    d: &[i16],
+    e: Estimate,
+    sums: &[i32],
     energy: &[u64],
     from: usize,
     ratio: Ratio,
 ) -> usize
-    requires items { All (λ x. unsigned_abs x < 2 ^ 16) d.now }
-    requires count { n ≤ 960 }
-    requires length { length d.now ≡ 1022 + n }
-    requires bounds { (i : ℕ) → i < 1008 → correlations (item d.now) 1022 n i ≤ slice_index bounds.now i }
-    requires bounds_sizes { (i : ℕ) → i < 1008 → slice_index bounds.now i < 2 ^ 43 }
-    requires bounds_length { length bounds.now ≡ 1008 }
-    requires energies { (i : ℕ) → i < 1008 → slice_index energy.now i ≡ energies (item d.now) 1022 n i }
+    requires fits { (k : ℕ) → k < length d.now → FitsSigned w16 (item d.now k) }
+    requires length { length d.now ≡ 1022 + e.n }
+    requires near { AreNear (item d.now) e.n (item sums.now) e.scale e.error }
+    requires sums { length sums.now ≡ 2048 }
+    requires energies { (i : ℕ) → i < 1008 → slice_index energy.now i ≡ energies (item d.now) 1022 e.n i }
     requires energy_sizes { (i : ℕ) → i < 1008 → slice_index energy.now i ≤ 2 ^ 40 }
     requires energy_length { length energy.now ≡ 1008 }
     requires from { from ≤ 1008 }
     requires slack { ratio.slack ≤ 1 }
     requires square { ratio.square < 2 ^ 86 }
     requires energy { ratio.energy ≤ 2 ^ 40 }
-    ensures { IsNext (correlations (item d.now) 1022 n) (energies (item d.now) 1022 n) ratio.slack ratio.square ratio.energy from 1008 result }
+    ensures { IsNext (correlations (item d.now) 1022 e.n) (energies (item d.now) 1022 e.n) ratio.slack ratio.square ratio.energy from 1008 result }
 {
     for i in from..LAGS {
-        if reaches_ratio(d, n, i, bounds[i], energy[i], ratio) {
+        if reaches_ratio(d, e, sums[BEFORE - (15 + i)], i, energy[i], ratio) {
             return i;
         }
     }
@@ -120,21 +142,22 @@ fn next_reaching(
 }
 
 // The ratio of a lag.
-fn ratio_of(d: &[i64], n: usize, energy: &[u64], i: usize) -> Ratio
-    requires items { All (λ x. unsigned_abs x < 2 ^ 16) d.now }
-    requires count { n ≤ 960 }
-    requires length { length d.now ≡ 1022 + n }
-    requires energies { (i : ℕ) → i < 1008 → slice_index energy.now i ≡ energies (item d.now) 1022 n i }
+fn ratio_of(d: &[i16], e: Estimate, sums: &[i32], energy: &[u64], i: usize) -> Ratio
+    requires fits { (k : ℕ) → k < length d.now → FitsSigned w16 (item d.now k) }
+    requires length { length d.now ≡ 1022 + e.n }
+    requires near { AreNear (item d.now) e.n (item sums.now) e.scale e.error }
+    requires sums { length sums.now ≡ 2048 }
+    requires energies { (i : ℕ) → i < 1008 → slice_index energy.now i ≡ energies (item d.now) 1022 e.n i }
     requires energy_sizes { (i : ℕ) → i < 1008 → slice_index energy.now i ≤ 2 ^ 40 }
     requires energy_length { length energy.now ≡ 1008 }
     requires lag { i < 1008 }
-    ensures square { result.square ≡ correlations (item d.now) 1022 n i * correlations (item d.now) 1022 n i }
-    ensures energy { result.energy ≡ energies (item d.now) 1022 n i }
+    ensures square { result.square ≡ correlations (item d.now) 1022 e.n i * correlations (item d.now) 1022 e.n i }
+    ensures energy { result.energy ≡ energies (item d.now) 1022 e.n i }
     ensures square_size { result.square < 2 ^ 86 }
     ensures energy_size { result.energy ≤ 2 ^ 40 }
     ensures slack { result.slack ≡ 0 }
 {
-    let c = correlation_of(d, n, i) as u128;
+    let c = correlation_of(d, e, sums[BEFORE - (15 + i)], i) as u128;
     Ratio {
         square: c * c,
         energy: energy[i],
@@ -143,59 +166,55 @@ fn ratio_of(d: &[i64], n: usize, energy: &[u64], i: usize) -> Ratio
 }
 
 // The next lag that is better than the one at `place`.
-fn next_better(d: &[i64], n: usize, bounds: &[u64], energy: &[u64], place: usize) -> usize
-    requires items { All (λ x. unsigned_abs x < 2 ^ 16) d.now }
-    requires count { n ≤ 960 }
-    requires length { length d.now ≡ 1022 + n }
-    requires bounds { (i : ℕ) → i < 1008 → correlations (item d.now) 1022 n i ≤ slice_index bounds.now i }
-    requires bounds_sizes { (i : ℕ) → i < 1008 → slice_index bounds.now i < 2 ^ 43 }
-    requires bounds_length { length bounds.now ≡ 1008 }
-    requires energies { (i : ℕ) → i < 1008 → slice_index energy.now i ≡ energies (item d.now) 1022 n i }
+fn next_better(d: &[i16], e: Estimate, sums: &[i32], energy: &[u64], place: usize) -> usize
+    requires fits { (k : ℕ) → k < length d.now → FitsSigned w16 (item d.now k) }
+    requires length { length d.now ≡ 1022 + e.n }
+    requires near { AreNear (item d.now) e.n (item sums.now) e.scale e.error }
+    requires sums { length sums.now ≡ 2048 }
+    requires energies { (i : ℕ) → i < 1008 → slice_index energy.now i ≡ energies (item d.now) 1022 e.n i }
     requires energy_sizes { (i : ℕ) → i < 1008 → slice_index energy.now i ≤ 2 ^ 40 }
     requires energy_length { length energy.now ≡ 1008 }
     requires place { place < 1008 }
-    ensures { IsNext (correlations (item d.now) 1022 n) (energies (item d.now) 1022 n) 0 (correlations (item d.now) 1022 n place * correlations (item d.now) 1022 n place) (energies (item d.now) 1022 n place) (place + 1) 1008 result }
+    ensures { IsNext (correlations (item d.now) 1022 e.n) (energies (item d.now) 1022 e.n) 0 (correlations (item d.now) 1022 e.n place * correlations (item d.now) 1022 e.n place) (energies (item d.now) 1022 e.n place) (place + 1) 1008 result }
 {
-    let ratio = ratio_of(d, n, energy, place);
-    next_reaching(d, n, bounds, energy, place + 1, ratio)
+    let ratio = ratio_of(d, e, sums, energy, place);
+    next_reaching(d, e, sums, energy, place + 1, ratio)
 }
 
 // The best lag, if one reaches the ratio.
-fn best_from(d: &[i64], n: usize, bounds: &[u64], energy: &[u64], ratio: Ratio) -> usize
-    requires items { All (λ x. unsigned_abs x < 2 ^ 16) d.now }
-    requires count { n ≤ 960 }
-    requires length { length d.now ≡ 1022 + n }
-    requires bounds { (i : ℕ) → i < 1008 → correlations (item d.now) 1022 n i ≤ slice_index bounds.now i }
-    requires bounds_sizes { (i : ℕ) → i < 1008 → slice_index bounds.now i < 2 ^ 43 }
-    requires bounds_length { length bounds.now ≡ 1008 }
-    requires energies { (i : ℕ) → i < 1008 → slice_index energy.now i ≡ energies (item d.now) 1022 n i }
+fn best_from(d: &[i16], e: Estimate, sums: &[i32], energy: &[u64], ratio: Ratio) -> usize
+    requires fits { (k : ℕ) → k < length d.now → FitsSigned w16 (item d.now k) }
+    requires length { length d.now ≡ 1022 + e.n }
+    requires near { AreNear (item d.now) e.n (item sums.now) e.scale e.error }
+    requires sums { length sums.now ≡ 2048 }
+    requires energies { (i : ℕ) → i < 1008 → slice_index energy.now i ≡ energies (item d.now) 1022 e.n i }
     requires energy_sizes { (i : ℕ) → i < 1008 → slice_index energy.now i ≤ 2 ^ 40 }
     requires energy_length { length energy.now ≡ 1008 }
     requires slack { ratio.slack ≡ 1 }
     requires square { ratio.square < 2 ^ 86 }
     requires energy { ratio.energy ≤ 2 ^ 40 }
-    ensures { IsBestFrom (correlations (item d.now) 1022 n) (energies (item d.now) 1022 n) ratio.square ratio.energy 1008 result }
+    ensures { IsBestFrom (correlations (item d.now) 1022 e.n) (energies (item d.now) 1022 e.n) ratio.square ratio.energy 1008 result }
 {
-    let mut place = next_reaching(d, n, bounds, energy, 0, ratio);
+    let mut place = next_reaching(d, e, sums, energy, 0, ratio);
     if place == LAGS {
         return LAGS;
     }
-    let mut next = next_better(d, n, bounds, energy, place);
+    let mut next = next_better(d, e, sums, energy, place);
     while next < LAGS {
         place = next;
-        next = next_better(d, n, bounds, energy, place);
+        next = next_better(d, e, sums, energy, place);
     }
     place
 }
 
-// The lag with the greatest bound. Where it reaches the ratio, its own is searched from: nothing else rests on it.
-fn greatest(bounds: &[u64]) -> usize
-    requires { length bounds.now ≡ 1008 }
+// The lag with the greatest estimate. Where it reaches the ratio, its own is searched from: nothing else rests on it.
+fn greatest(sums: &[i32]) -> usize
+    requires { length sums.now ≡ 2048 }
     ensures { result < 1008 }
 {
     let mut place = 0;
     for i in 1..LAGS {
-        if bounds[place] < bounds[i] {
+        if sums[BEFORE - (15 + place)] < sums[BEFORE - (15 + i)] {
             place = i;
         }
     }
@@ -203,28 +222,59 @@ fn greatest(bounds: &[u64]) -> usize
 }
 
 // The best lag, if one reaches half the frame's energy.
-pub(crate) fn best(d: &[i64], n: usize, bounds: &[u64], energy: &[u64], own: u64) -> usize
-    requires items { All (λ x. unsigned_abs x < 2 ^ 16) d.now }
-    requires count { n ≤ 960 }
-    requires length { length d.now ≡ 1022 + n }
-    requires bounds { (i : ℕ) → i < 1008 → correlations (item d.now) 1022 n i ≤ slice_index bounds.now i }
-    requires bounds_sizes { (i : ℕ) → i < 1008 → slice_index bounds.now i < 2 ^ 43 }
-    requires bounds_length { length bounds.now ≡ 1008 }
-    requires energies { (i : ℕ) → i < 1008 → slice_index energy.now i ≡ energies (item d.now) 1022 n i }
+pub(crate) fn best(d: &[i16], e: Estimate, sums: &[i32], energy: &[u64], own: u64) -> usize
+    requires fits { (k : ℕ) → k < length d.now → FitsSigned w16 (item d.now k) }
+    requires length { length d.now ≡ 1022 + e.n }
+    requires near { AreNear (item d.now) e.n (item sums.now) e.scale e.error }
+    requires sums { length sums.now ≡ 2048 }
+    requires energies { (i : ℕ) → i < 1008 → slice_index energy.now i ≡ energies (item d.now) 1022 e.n i }
     requires energy_sizes { (i : ℕ) → i < 1008 → slice_index energy.now i ≤ 2 ^ 40 }
     requires energy_length { length energy.now ≡ 1008 }
     requires own { own ≤ 2 ^ 40 }
-    ensures { IsBestFrom (correlations (item d.now) 1022 n) (energies (item d.now) 1022 n) own 2 1008 result }
+    ensures { IsBestFrom (correlations (item d.now) 1022 e.n) (energies (item d.now) 1022 e.n) own 2 1008 result }
 {
     let floor = Ratio {
         square: own as u128,
         energy: 2,
         slack: 1,
     };
-    let i = greatest(bounds);
-    let raised = ratio_of(d, n, energy, i).or_equal();
-    if floor.is_reached(correlation_of(d, n, i), energy[i]) {
-        return best_from(d, n, bounds, energy, raised);
+    let i = greatest(sums);
+    let raised = ratio_of(d, e, sums, energy, i).or_equal();
+    if floor.is_reached(correlation_of(d, e, sums[BEFORE - (15 + i)], i), energy[i]) {
+        return best_from(d, e, sums, energy, raised);
     }
-    best_from(d, n, bounds, energy, floor)
+    best_from(d, e, sums, energy, floor)
+}
+
+// The greatest number of steps of gain of a lag, up to 8.
+pub(crate) fn gain_of(d: &[i16], e: Estimate, sums: &[i32], energy: &[u64], i: usize) -> u32
+    requires fits { (k : ℕ) → k < length d.now → FitsSigned w16 (item d.now k) }
+    requires length { length d.now ≡ 1022 + e.n }
+    requires near { AreNear (item d.now) e.n (item sums.now) e.scale e.error }
+    requires sums { length sums.now ≡ 2048 }
+    requires energies { (i : ℕ) → i < 1008 → slice_index energy.now i ≡ energies (item d.now) 1022 e.n i }
+    requires energy_sizes { (i : ℕ) → i < 1008 → slice_index energy.now i ≤ 2 ^ 40 }
+    requires energy_length { length energy.now ≡ 1008 }
+    requires lag { i < 1008 }
+    ensures value { result ≡ gain_steps (correlations (item d.now) 1022 e.n i) (energies (item d.now) 1022 e.n i) 8 }
+    ensures size { result ≤ 8 }
+{
+    gain_steps(correlation_of(d, e, sums[BEFORE - (15 + i)], i), energy[i])
+}
+
+// The greatest number of steps of gain, up to 8, that is at most half the correlation over the energy.
+fn gain_steps(c: u64, e: u64) -> u32
+    requires correlation_size { c < 2 ^ 43 }
+    requires energy_size { e ≤ 2 ^ 40 }
+    ensures value { result ≡ gain_steps c e 8 }
+    ensures size { result ≤ 8 }
+{
+    let mut k: u32 = 8;
+    while k > 0 {
+        if 3072 * (k as u64) * e <= 16384 * c {
+            return k;
+        }
+        k -= 1;
+    }
+    0
 }

@@ -1,7 +1,7 @@
 //! Sums over samples in a row.
-ghost use Rattle.std.specs.Prelude.{◌≡◌, ℕ, ◌+◌, ◌*◌, ◌^◌, ◌<◌, ◌≤◌, All, ℤ, pos, unsigned_abs, length};
+ghost use Rattle.std.specs.Prelude.{◌≡◌, ℕ, ◌+◌, ◌*◌, ◌^◌, ◌<◌, ◌≤◌, All, unsigned_abs, length};
 ghost use Rattle.fixed_math.specs.Items.{item};
-ghost use Rattle.celt_analysis.specs.Sums.{energy, correlation, squared, magnitude};
+ghost use Rattle.celt_analysis.specs.Sums.{energy, squared};
 
 // A sample's square.
 pub(crate) fn square(x: i64) -> u64
@@ -22,21 +22,6 @@ pub(crate) fn energy_from(d: &[i64], a: usize, n: usize) -> u64
     let mut sum: u64 = 0;
     for i in 0..n {
         sum += square(d[a + i]);
-    }
-    sum
-}
-
-// The sum of the products of `n` samples from place `a` on with those from place `b` on.
-pub(crate) fn correlation_from(d: &[i64], a: usize, b: usize, n: usize) -> i64
-    requires items { All (λ x. unsigned_abs x < 2 ^ 16) d.now }
-    requires count { n ≤ 960 }
-    requires first { a + n ≤ length d.now }
-    requires second { b + n ≤ length d.now }
-    ensures { result ≡ correlation (item d.now) (item d.now) a b n }
-{
-    let mut sum: i64 = 0;
-    for i in 0..n {
-        sum += d[a + i] * d[b + i];
     }
     sum
 }

@@ -1,9 +1,9 @@
-use Rattle.std.proofs.Common.{◌≡◌, ◌+◌, ◌≤◌, ◌^◌, sym, arith, List}
-use Rattle.std.specs.Prelude.{ℤ, pos, FitsSigned, unsigned_abs}
-use Rattle.std.specs.Int.{w64}
-use Rattle.std.proofs.lemmas.Int.{to_z-of_z, fits_signed_from_abs}
+use Rattle.std.proofs.Common.{◌≡◌, ◌+◌, ◌^◌, ◌≤◌, List, sym, arith, rules}
+use Rattle.std.specs.Prelude.{ℤ, pos, unsigned_abs, FitsSigned}
+use Rattle.std.specs.Int.{w16}
+use Rattle.std.proofs.lemmas.Int.{to_z-of_z}
 use Rattle.fixed_math.specs.Items.{item}
-use Rattle.celt_analysis.proofs.SumLemmas.{sum_from-more, sum_from-none}
+use Rattle.celt_analysis.proofs.SumLemmas.{sum_from-none, sum_from-more}
 use Rattle.celt_analysis.proofs.estimate.magnitude_from.Goals as goal
 
 pub loop-i-init : goal.loop-i-init
@@ -14,7 +14,7 @@ loop-i-preserved c =
     let d : List ℤ = c.args.d.now in
     let x : ℤ = item d (c.args.a + c.loop-i.i) in
     let b : unsigned_abs x ≤ 2 ^ 15 = c.requires.items (c.args.a + c.loop-i.i) (pos 0) (omega arith) in
-    let fx : FitsSigned w64 x = fits_signed_from_abs w64 x (omega arith) in
-    let e : c.unsigned_abs-sum.result ≡ unsigned_abs x = simp to_z-of_z at c.unsigned_abs-sum.ensures.value in
+    let fx : FitsSigned w16 x = search rules in
+    let e : c.unsigned_abs.result ≡ unsigned_abs x = simp to_z-of_z at c.unsigned_abs.ensures.value in
     let i = c.loop-i.invariant in
     (omega (arith, sum_from-more (λ k. unsigned_abs (item d k)) c.args.a c.loop-i.i), omega arith)

@@ -1,13 +1,14 @@
 use Rattle.std.proofs.Common.{◌≡◌, ℕ, ◌+◌, ◌*◌, ◌/◌, ◌<◌, ◌^◌, inl, inr, sym, ap, subst, arith, ◌∙◌}
 use Rattle.std.specs.Prelude.{ℤ, ◌+ℤ◌, unsigned_abs}
-use Rattle.std.specs.Int.{w32, int_wrap}
+use Rattle.std.specs.Int.{w16, w32, int_wrap}
+use Rattle.std.proofs.lemmas.Int.{fits_signed_from_abs}
 use Rattle.fixed_math.specs.Items.{item}
 use Rattle.celt_analysis.specs.Sums.{correlation}
 use Rattle.celt_analysis.proofs.KaratsubaLemmas.{Half, half-of, item-small, leaf-small, joined, lay, both-moved, low-moved, high-moved, joined-sizes, sizes-kept}
 use Rattle.celt_analysis.proofs.karatsuba.+correlate.Goals as goal
 
-pub correlate_short-requires-clause-sizes : goal.correlate_short-requires-clause-sizes
-correlate_short-requires-clause-sizes m c = λ i p. leaf-small (unsigned_abs (item c.args.s.now i)) c.args.part.places c.args.part.halvings c.requires.power (c.requires.sizes i p)
+pub correlate_short-requires-clause-fits : goal.correlate_short-requires-clause-fits
+correlate_short-requires-clause-fits m c = λ i p. fits_signed_from_abs w16 _ (leaf-small (unsigned_abs (item c.args.s.now i)) c.args.part.places c.args.part.halvings c.requires.power (c.requires.sizes i p))
 
 pub sums-requires-clause-first_sizes : goal.sums-requires-clause-first_sizes
 sums-requires-clause-first_sizes m c =

@@ -12,5 +12,5 @@ loop-t-init c = put-start (λ k. int_wrap w32 (correlation (item c.args.s.now) (
 
 pub loop-t-preserved : goal.loop-t-preserved
 loop-t-preserved c =
-    let fr : FitsSigned w32 c.product_sum.result = search rules in
-    simp to_z-of_z (put-more (λ k. int_wrap w32 (correlation (item c.args.s.now) (item c.args.s.now) (c.args.at + k) c.args.from 64)) c.args.out.now c.loop-t.out c.args.to c.loop-t.t c.product_sum.result (omega (arith, c.requires.room)) c.product_sum.ensures c.loop-t.invariant)
+    let fr : FitsSigned w32 c.sixty_four.result = search rules in
+    simp to_z-of_z (put-more (λ k. int_wrap w32 (correlation (item c.args.s.now) (item c.args.s.now) (c.args.at + k) c.args.from 64)) c.args.out.now c.loop-t.out c.args.to c.loop-t.t c.sixty_four.result (omega (arith, c.requires.room)) c.sixty_four.ensures c.loop-t.invariant)

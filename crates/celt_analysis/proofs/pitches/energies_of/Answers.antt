@@ -1,5 +1,5 @@
 use Rattle.std.proofs.Common.{◌≡◌, ℕ, ◌+◌, ◌-◌, ◌<◌, ◌≤◌, ◌^◌, sym, ap, arith, ◌∙◌, length}
-use Rattle.std.specs.Prelude.{ℤ, replicate}
+use Rattle.std.specs.Prelude.{ℤ}
 use Rattle.std.proofs.lemmas.List.{length-set}
 use Rattle.fixed_math.specs.Items.{item}
 use Rattle.celt_analysis.specs.Pitch.{energies}
@@ -18,9 +18,9 @@ loop-i-init c =
       at = omega (arith, c.new-slide.ensures.at);
       count = c.new-slide.ensures.count;
       sum = c.new-slide.ensures.sum ∙ ap (λ a. energy s a n) (sym c.new-slide.ensures.at) ∙ ap (λ m. energy s c.new-slide.result.at m) (sym c.new-slide.ensures.count);
-      length = omega arith;
-      items = one-more (λ j z. z ≡ energies s 1022 n j) (replicate 1008 0) 0 c.sum.result (omega arith) p (λ k q. absurd (omega arith));
-      sizes = one-more (λ j z. z ≤ 2 ^ 40) (replicate 1008 0) 0 c.sum.result (omega arith) (omega arith) (λ k q. absurd (omega arith));
+      length = length-set c.args.out.now 0 c.sum.result ∙ c.requires.room;
+      items = one-more (λ j z. z ≡ energies s 1022 n j) c.args.out.now 0 c.sum.result (omega (arith, c.requires.room)) p (λ k q. absurd (omega arith));
+      sizes = one-more (λ j z. z ≤ 2 ^ 40) c.args.out.now 0 c.sum.result (omega (arith, c.requires.room)) (omega arith) (λ k q. absurd (omega arith));
     }
 
 pub loop-i-preserved : goal.loop-i-preserved

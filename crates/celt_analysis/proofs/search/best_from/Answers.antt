@@ -6,14 +6,14 @@ use Rattle.celt_analysis.proofs.search.best_from.Goals as goal
 
 pub returns-then-place-eq-LAGS : goal.returns-then-place-eq-LAGS
 returns-then-place-eq-LAGS c =
-    not-found (correlations (item c.args.d.now) 1022 c.args.n) (energies (item c.args.d.now) 1022 c.args.n) c.args.ratio.square c.args.ratio.energy 1008 c.next_reaching-place.result (omega arith) (next-of-equal (correlations (item c.args.d.now) 1022 c.args.n) (energies (item c.args.d.now) 1022 c.args.n) c.args.ratio.square c.args.ratio.energy 1008 c.next_reaching-place.result c.args.ratio.slack c.requires.slack c.next_reaching-place.ensures)
+    not-found (correlations (item c.args.d.now) 1022 c.args.e.n) (energies (item c.args.d.now) 1022 c.args.e.n) c.args.ratio.square c.args.ratio.energy 1008 c.next_reaching-place.result (omega arith) (next-of-equal (correlations (item c.args.d.now) 1022 c.args.e.n) (energies (item c.args.d.now) 1022 c.args.e.n) c.args.ratio.square c.args.ratio.energy 1008 c.next_reaching-place.result c.args.ratio.slack c.requires.slack c.next_reaching-place.ensures)
 
 pub loop-next-init : goal.loop-next-init
 loop-next-init c =
-    let m = correlations (item c.args.d.now) 1022 c.args.n in
-    let e = energies (item c.args.d.now) 1022 c.args.n in
+    let m = correlations (item c.args.d.now) 1022 c.args.e.n in
+    let e = energies (item c.args.d.now) 1022 c.args.e.n in
     let r : ℕ = c.next_reaching-place.result in
-    let first = next-of-equal (correlations (item c.args.d.now) 1022 c.args.n) (energies (item c.args.d.now) 1022 c.args.n) c.args.ratio.square c.args.ratio.energy 1008 c.next_reaching-place.result c.args.ratio.slack c.requires.slack c.next_reaching-place.ensures in
+    let first = next-of-equal (correlations (item c.args.d.now) 1022 c.args.e.n) (energies (item c.args.d.now) 1022 c.args.e.n) c.args.ratio.square c.args.ratio.energy 1008 c.next_reaching-place.result c.args.ratio.slack c.requires.slack c.next_reaching-place.ensures in
     let p : r < 1008 = omega (arith, first.high) in
     record {
       best = best-first m e c.args.ratio.square c.args.ratio.energy 1008 r first p;
@@ -23,8 +23,8 @@ loop-next-init c =
 
 pub loop-next-preserved : goal.loop-next-preserved
 loop-next-preserved c =
-    let m = correlations (item c.args.d.now) 1022 c.args.n in
-    let e = energies (item c.args.d.now) 1022 c.args.n in
+    let m = correlations (item c.args.d.now) 1022 c.args.e.n in
+    let e = energies (item c.args.d.now) 1022 c.args.e.n in
     let i = c.loop-next.invariant in
     record {
       best = best-next m e 1008 c.loop-next.place c.loop-next.next i.best i.next c.loop-next-test.true;
@@ -35,4 +35,4 @@ loop-next-preserved c =
 pub returns : goal.returns
 returns c =
     let i = c.loop-next.invariant in
-    searched (correlations (item c.args.d.now) 1022 c.args.n) (energies (item c.args.d.now) 1022 c.args.n) c.args.ratio.square c.args.ratio.energy 1008 c.loop-next.place c.loop-next.next i.best i.next i.met (omega arith)
+    searched (correlations (item c.args.d.now) 1022 c.args.e.n) (energies (item c.args.d.now) 1022 c.args.e.n) c.args.ratio.square c.args.ratio.energy 1008 c.loop-next.place c.loop-next.next i.best i.next i.met (omega arith)

@@ -7,8 +7,8 @@ use Rattle.celt_analysis.proofs.search.best_from.Given as goal
 -- the place is the best so far, and next is the first that is better
 abbrev pub invariant-loop-next : goal.invariant-loop-next
 invariant-loop-next l =
-    let c = correlations (item l.d) 1022 l.n in
-    let e = energies (item l.d) 1022 l.n in
+    let c = correlations (item l.d) 1022 l.e.n in
+    let e = energies (item l.d) 1022 l.e.n in
     record {
       best : IsBest c e (l.place + 1) l.place;
       next : IsNext c e 0 (c l.place * c l.place) (e l.place) (l.place + 1) 1008 l.next;
