@@ -1,4 +1,4 @@
-use Rattle.std.proofs.Common.{sym, subst, ◌++◌, ◌∙◌}
+use Rattle.std.proofs.Common.{sym, subst, ◌++◌}
 use Rattle.celt_base.specs.Outside.{AppendsFront}
 use Rattle.celt_base.proofs.Causes.{then_front, longer_front}
 use Rattle.celt_session.specs.Decoding.{decoding_function, start_of}
