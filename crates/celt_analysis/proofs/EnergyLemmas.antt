@@ -1,7 +1,8 @@
 -- Energies of bands and their targets.
 use Rattle.std.proofs.Common.{◌≡◌, ℕ, zero, suc, ◌+◌, ◌*◌, ◌/◌, ◌%◌, ◌^◌, ◌<◌, ◌≤◌, refl, sym, subst, inl, inr, arith, ap, ◌∙◌, List, length, true, false, nat_lt, if◌then◌else◌}
-use Rattle.std.specs.Prelude.{Bool, int_lt, ◌&&◌, nat_eq, ℤ, pos, negsuc, ◌-ℤ◌, unsigned_abs, slice_index, slice_set, All}
-use Rattle.std.specs.Int.{int_max}
+use Rattle.std.specs.Prelude.{Bool, int_lt, ◌&&◌, nat_eq, ℤ, pos, negsuc, ◌-ℤ◌, ◌*ℤ◌, FitsSigned, unsigned_abs, slice_index, slice_set, All}
+use Rattle.std.specs.Int.{int_max, w64, w128}
+use Rattle.std.proofs.lemmas.Int.{fits_signed_from_abs, unsigned_abs-mul}
 use Rattle.std.proofs.lemmas.Bool.Decides.{nat_tests}
 use Rattle.std.proofs.lemmas.List.{length-set, get_or-set_same, get_or-set_other, get_or_default}
 use Rattle.celt_tables.specs.declared.energies.TheConstants.{MEANS}
@@ -19,6 +20,23 @@ use Rattle.celt_analysis.specs.Sums.{squared}
 
 pub square_within : (x : ℤ) → unsigned_abs x < 2 ^ 38 → squared x ≤ 2 ^ 76
 square_within x h = mul-le (unsigned_abs x) (unsigned_abs x) (2 ^ 38) (2 ^ 38) (omega arith) (omega arith)
+
+-- the code's steps for it
+pub record WideSteps (x : ℤ) : Type 0 where
+  pub x_fits : FitsSigned w64 x
+  pub x_wide : FitsSigned w128 x
+  pub square : FitsSigned w128 (x *ℤ x)
+  pub size : unsigned_abs (x *ℤ x) ≤ 2 ^ 76
+
+pub wide_steps : (x : ℤ) → unsigned_abs x < 2 ^ 38 → WideSteps x
+wide_steps x h =
+    let s : unsigned_abs (x *ℤ x) ≤ 2 ^ 76 = subst (λ k. k ≤ 2 ^ 76) (sym (unsigned_abs-mul x x)) (square_within x h) in
+    record {
+      x_fits = fits_signed_from_abs w64 _ (omega arith);
+      x_wide = fits_signed_from_abs w128 _ (omega arith);
+      square = fits_signed_from_abs w128 _ (omega arith);
+      size = s;
+    }
 
 -- the root of an energy of a band
 pub root_below : (v : ℕ) → v < 2 ^ 84 → root v < 2 ^ 42

@@ -1,3 +1,4 @@
+pub mod BatchSteps
 pub mod BestLemmas
 pub mod ChannelLemmas
 pub mod EnergyLemmas

@@ -20,8 +20,8 @@ fn square(x: i64) -> u128
     ensures value { result ≡ squared x }
     ensures size { result ≤ 2 ^ 76 }
 {
-    let size = x.unsigned_abs() as u128;
-    size * size
+    let wide = x as i128;
+    (wide * wide) as u128
 }
 
 // The energy of `count` items from place `from` on.

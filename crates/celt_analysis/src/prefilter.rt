@@ -22,17 +22,13 @@ pub fn prefilter(emphasized: &[i64], settings: &[Setting; 3], out: &mut [i64])
     ensures value { out.new ≡ listed (length out.old) (value_at (length out.old - 120) settings.now (item emphasized.now)) }
     ensures sizes { All (λ v. unsigned_abs v < 2 ^ 29) out.new }
 {
+    let older = settings[0];
+    let last = settings[1];
+    let now = settings[2];
     let fade = out.len() - 2 * OVERLAP;
     let (before, frame) = out.split_at_mut(OVERLAP);
-    filter_from(emphasized, START, fade, settings[0], settings[1], before);
-    filter_from(
-        emphasized,
-        START + OVERLAP,
-        0,
-        settings[1],
-        settings[2],
-        frame,
-    );
+    filter_from(emphasized, START, fade, older, last, before);
+    filter_from(emphasized, START + OVERLAP, 0, last, now, frame);
 }
 
 // Filters the values from place `at` on, which are those from place `fade` on of the fade between two settings.

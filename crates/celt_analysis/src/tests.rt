@@ -1,13 +1,18 @@
 //! Frames of signals that are made by rule, and what is found in them, computed by a program apart from this one; an encoder
 //! apart from this one has the same transients, settings and silence, and energies within 4 of the targets.
-ghost use Rattle.std.specs.Prelude.{◌≡◌, ◌<◌, ◌≤◌, length};
+ghost use Rattle.std.specs.Prelude.{◌≡◌, ◌<◌, ◌≤◌, length, IfOk};
+ghost use Rattle.celt_analysis.specs.Batches.{AreWindows, IsWindow};
 
 use crate::pitch_tests::{Right, Signal, Words, pitch_in, right_of, window_of};
-use crate::{Analysis, analyse};
+use crate::{Analysis, WindowSlot, analyse, analyse_batch, pitch, pitch_batch};
 use celt_base::kind::Kind;
+use celt_base::outside::Gate;
 use celt_base::state::Setting;
 use celt_base::status::OutOfMemory;
 use fixed_math::{Exp, Trig};
+use std::alloc::Global;
+use std::sync::atomic::{AtomicU64, Ordering};
+use std::thread::Threads;
 
 #[test]
 fn new_analysis(rt: HostRuntime) {
@@ -147,6 +152,129 @@ fn frames_of_signals(rt: HostRuntime) -> Result<(), OutOfMemory> {
         count = count.wrapping_add(1);
     }
     assert_eq!(rt; count, 208);
+    Ok(())
+}
+
+// A window with 1000 at every place that 100 divides, and one of zeros.
+#[test]
+fn pitch_of_pulses(rt: HostRuntime) {
+    let kind = Kind {
+        lm: 3,
+        channels: 1,
+        end: 21,
+    };
+    let mut window = [0i16; 2105];
+    let silent = pitch(&window, kind);
+    assert_eq!(rt; (silent.period, silent.gain, silent.tapset), (15, 0, 0));
+    for k in 0..22usize {
+        window[100 * k] = 1000;
+    }
+    let setting = pitch(&window, kind);
+    assert_eq!(rt;
+        (setting.period, setting.gain, setting.tapset),
+        (100, 15_360, 0)
+    );
+}
+
+// A gate that counts the halves that enter.
+#[derive(Drop)]
+struct Count {
+    halves: AtomicU64,
+}
+
+impl Gate for Count {
+    fn enter(&self, half: u32) {
+        self.halves.fetch_add(1 + u64::from(half), Ordering::SeqCst);
+    }
+}
+
+// A slot for the window of a frame, with settings that are off.
+fn slot_for(alloc: Global, source: Source, frame: u32) -> Result<WindowSlot, OutOfMemory>
+    ensures { IfOk result (λ slot. IsWindow source.kind slot) }
+{
+    let samples = window_of(source.signal, source.right, source.kind, frame);
+    let size = source.kind.channels as usize * (1145 + (120usize << source.kind.lm));
+    let Some(samples) = samples.get(..size) else {
+        return Err(OutOfMemory);
+    };
+    let Ok(mut window) = Vec::with_capacity(alloc, size) else {
+        return Err(OutOfMemory);
+    };
+    let Ok(()) = window.extend_from_slice(samples) else {
+        return Err(OutOfMemory);
+    };
+    Ok(WindowSlot {
+        window,
+        settings: [Setting::off(); 3],
+        analysis: Analysis::new(alloc)?,
+    })
+}
+
+// Slots for the first frames.
+fn slots_for(alloc: Global, source: Source, count: u32) -> Result<Vec<WindowSlot>, OutOfMemory>
+    ensures { IfOk result (λ slots. AreWindows source.kind slots.items) }
+{
+    let Ok(mut slots) = Vec::with_capacity(alloc, 16) else {
+        return Err(OutOfMemory);
+    };
+    for frame in 0..count {
+        let Ok(slot) = slot_for(alloc, source, frame) else {
+            return Err(OutOfMemory);
+        };
+        let Ok(()) = slots.push(slot) else {
+            return Err(OutOfMemory);
+        };
+    }
+    Ok(slots)
+}
+
+// Whether a slot holds the pitch of a frame, and what is found with it.
+fn is_found(slot: &WindowSlot, source: Source, frame: u32) -> bool {
+    let setting = setting_before(source, frame, 0);
+    slot.settings[2] == setting
+        && slot.analysis.setting() == setting
+        && slot.analysis.kind() == Some(source.kind)
+}
+
+// A batch of the first frames: whether each slot holds what is found in its window by itself, and the halves that entered.
+fn batch_of<R: Threads>(
+    rt: &R,
+    alloc: Global,
+    source: Source,
+    count: u32,
+) -> Result<(bool, u64), OutOfMemory> {
+    let trig = Trig::new();
+    let exp = Exp::new();
+    let gate = Count {
+        halves: AtomicU64::new(0),
+    };
+    let mut slots = slots_for(alloc, source, count)?;
+    pitch_batch(rt, slots.as_mut_slice(), source.kind, &gate);
+    analyse_batch(rt, slots.as_mut_slice(), source.kind, &trig, &exp, &gate);
+    let mut right = true;
+    for k in 0..slots.len() {
+        right = right && is_found(&slots[k], source, u32::try_from(k).unwrap_or(0));
+    }
+    Ok((right, gate.halves.load(Ordering::SeqCst)))
+}
+
+#[test]
+fn batches(rt: HostRuntime) -> Result<(), OutOfMemory> {
+    let mut words = Words {
+        rest: "onset 1500 100 same 3 1 17",
+    };
+    let signal = words.signal();
+    let right = right_of(words.next());
+    let kind = kind_of(&mut words);
+    let source = Source {
+        signal,
+        right,
+        kind,
+    };
+    assert_eq!(rt; batch_of(&rt, rt.alloc(), source, 0)?, (true, 0));
+    assert_eq!(rt; batch_of(&rt, rt.alloc(), source, 1)?, (true, 0));
+    assert_eq!(rt; batch_of(&rt, rt.alloc(), source, 2)?, (true, 6));
+    assert_eq!(rt; batch_of(&rt, rt.alloc(), source, 5)?, (true, 6));
     Ok(())
 }
 

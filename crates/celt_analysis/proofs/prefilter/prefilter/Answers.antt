@@ -16,14 +16,13 @@ returns-clause-value c =
     let three : length s ≡ 3 = search rules in
     let a = get_or_default s 0 c.index-settings-0.result off (omega (arith, three)) in
     let b = get_or_default s 1 c.index-settings-1.result off (omega (arith, three)) in
-    let d = get_or_default s 1 c.index-settings-1-2.result off (omega (arith, three)) in
     let e = get_or_default s 2 c.index-settings-2.result off (omega (arith, three)) in
     let size = c.requires.size in
     let fade : length c.args.out.now - 240 ≡ n - 120 = omega arith in
     let behind = c.split_at_mut-before.ensures.back_len in
     let rest : length c.split_at_mut-before.result.1.now ≡ n = omega (arith, behind, size) in
     let ex = part_is p 1025 _ _ _ _ _ _ _ _ c.filter_from.new.out c.filter_from.ensures.value c.split_at_mut-before.ensures.front_len fade a b in
-    let ey = part_is p 1145 _ _ _ _ _ _ _ _ c.filter_from-2.new.out c.filter_from-2.ensures.value rest refl d e in
+    let ey = part_is p 1145 _ _ _ _ _ _ _ _ c.filter_from-2.new.out c.filter_from-2.ensures.value rest refl b e in
     let whole : n + 120 ≡ length c.args.out.now = omega arith in
     values_join n s p c.filter_from.new.out c.filter_from-2.new.out ex ey ∙ ap (λ k. listed k (value_at n s p)) whole
 
