@@ -1,11 +1,11 @@
 -- Radices and their plans, the growth of a join, and the transform by joins over reversed digits.
 use Rattle.std.proofs.Common.{◌≡◌, ℕ, zero, suc, ◌+◌, ◌-◌, ◌*◌, ◌/◌, ◌%◌, ◌^◌, ◌<◌, ◌≤◌, refl, sym, subst, inl, inr, arith, ap, ◌∙◌, List, [], ◌∷◌, Bool, true, false, ◌&&◌}
-use Rattle.std.specs.Prelude.{ℤ, neg_ℤ, unsigned_abs, nat_eq, nat_le, if◌then◌else◌}
+use Rattle.std.specs.Prelude.{ℤ, unsigned_abs, nat_eq, nat_le, if◌then◌else◌}
 use Rattle.std.proofs.lemmas.Int.{ints}
 use Rattle.std.proofs.lemmas.Nat.{mul-le, div-mul-add, mod-mul-add, mod_below, div_below, div-add-mod'}
-use Rattle.std.proofs.lemmas.Bool.{cases_lt, cases_eq, and_parts, eqb-true, leb-true, ne_eqb}
-use Rattle.fixed_math.specs.Circle.{cosine, sine, quarter_cosine}
-use Rattle.fixed_math.proofs.AngleLemmas.{quarter_size, cosine_first, cosine_second, cosine_third, cosine_fourth, sine_first, sine_second, sine_third, sine_fourth}
+use Rattle.std.proofs.lemmas.Bool.{cases_eq, and_parts, eqb-true, leb-true, ne_eqb}
+use Rattle.fixed_math.specs.Circle.{cosine, sine}
+use Rattle.fixed_math.proofs.AngleLemmas.{cosine_size, sine_size}
 use Rattle.fixed_math.proofs.TableLemmas.{all_from, all_from-at}
 use Rattle.mdct_fixed.specs.declared.complex.Complex.{Complex}
 use Rattle.mdct_fixed.specs.Numbers.{plus, turned, IsWithin}
@@ -82,33 +82,6 @@ radix_whole len l h = elim (cases_eq (len % 4) 0) [
 ]
 
 -- ---- growth
-
-negated_size : (z : ℤ) (n : ℕ) → unsigned_abs z ≤ n → unsigned_abs (neg_ℤ z) ≤ n
-negated_size z n h = omega (arith, ints)
-
-pub cosine_size : (a : ℕ) → a < 15360 → unsigned_abs (cosine a) ≤ 2 ^ 15
-cosine_size a h = elim (cases_lt 3840 a) [
-  | inr p ↦ subst (λ z. unsigned_abs z ≤ 2 ^ 15) (sym (cosine_first a p)) (quarter_size a p)
-  | inl p ↦ elim (cases_lt 7680 a) [
-    | inr q ↦ subst (λ z. unsigned_abs z ≤ 2 ^ 15) (sym (cosine_second a p q)) (negated_size (quarter_cosine (7680 - a)) (2 ^ 15) (quarter_size (7680 - a) (omega arith)))
-    | inl q ↦ elim (cases_lt a 11520) [
-      | inl r ↦ subst (λ z. unsigned_abs z ≤ 2 ^ 15) (sym (cosine_third a q r)) (negated_size (quarter_cosine (a - 7680)) (2 ^ 15) (quarter_size (a - 7680) (omega arith)))
-      | inr r ↦ subst (λ z. unsigned_abs z ≤ 2 ^ 15) (sym (cosine_fourth a r)) (quarter_size (15360 - a) (omega arith))
-    ]
-  ]
-]
-
-pub sine_size : (a : ℕ) → a < 15360 → unsigned_abs (sine a) ≤ 2 ^ 15
-sine_size a h = elim (cases_lt 3840 a) [
-  | inr p ↦ subst (λ z. unsigned_abs z ≤ 2 ^ 15) (sym (sine_first a p)) (quarter_size (3840 - a) (omega arith))
-  | inl p ↦ elim (cases_lt 7680 a) [
-    | inr q ↦ subst (λ z. unsigned_abs z ≤ 2 ^ 15) (sym (sine_second a p q)) (quarter_size (a - 3840) (omega arith))
-    | inl q ↦ elim (cases_lt a 11520) [
-      | inl r ↦ subst (λ z. unsigned_abs z ≤ 2 ^ 15) (sym (sine_third a q r)) (negated_size (quarter_cosine (11520 - a)) (2 ^ 15) (quarter_size (11520 - a) (omega arith)))
-      | inr r ↦ subst (λ z. unsigned_abs z ≤ 2 ^ 15) (sym (sine_fourth a r h)) (negated_size (quarter_cosine (a - 11520)) (2 ^ 15) (quarter_size (a - 11520) (omega arith)))
-    ]
-  ]
-]
 
 pub turned_within : (z : Complex) (a n : ℕ) → a < 15360 → IsWithin n z → IsWithin (2 * n) (turned z a)
 unfolding turned
