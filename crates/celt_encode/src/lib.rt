@@ -16,7 +16,11 @@ mod listening_laws;
 mod listening_tests;
 mod numbers;
 mod rooms;
+#[cfg(test)]
+mod rows;
 mod spreads;
+#[cfg(test)]
+mod tests;
 mod units;
 mod vectors;
 mod writing;

@@ -31,3 +31,7 @@ pub mod WholeReads
 pub mod WholeSizes
 pub mod WindowLemmas
 pub mod ZeroSamples
+pub mod SlotSteps
+pub mod HearingSteps
+pub mod EncoderWorkSteps
+pub mod PairSteps

@@ -3,6 +3,8 @@ pub mod Choices
 pub mod Decoders
 pub mod Decoding
 pub mod EncodedFrames
+pub mod EncoderPairs
+pub mod EncoderWorks
 pub mod Encoding
 pub mod Encodings
 pub mod Forms
@@ -11,6 +13,7 @@ pub mod FrameSessions
 pub mod FrameWorks
 pub mod Framers
 pub mod Frames
+pub mod Hearings
 pub mod Lines
 pub mod Makers
 pub mod Outcomes
@@ -23,7 +26,6 @@ pub mod Playing
 pub mod Reads
 pub mod Samples
 pub mod Sessions
-pub mod SilentWorks
 pub mod Texts
 pub mod Waves
 pub mod Windows

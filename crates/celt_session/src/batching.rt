@@ -1,4 +1,5 @@
 //! What is held of the samples, and the frames of a batch of windows.
+ghost use Rattle.celt_session.specs.EncoderPairs.{pair_work};
 ghost use Rattle.std.specs.Prelude.{◌≡◌, ◌+◌, ◌-◌, ◌*◌, ◌≤◌, [], ◌++◌, length, take, drop, min, replicate, IfOk, vec_capacity};
 ghost use Rattle.celt_base.specs.declared.kind.Kind.{Kind};
 ghost use Rattle.wav_edge.specs.Samples.{samples_of};
@@ -7,7 +8,7 @@ ghost use Rattle.celt_session.specs.FrameWorks.{Framed, batch_len};
 ghost use Rattle.celt_session.specs.Framers.{HasFramerRooms};
 
 use crate::batch::Batch;
-use crate::frame_work::FrameWork;
+use crate::encoder_pair::EncoderPair;
 use crate::framer::Framer;
 use crate::reading::zero_bytes;
 use celt_base::kind::Kind;
@@ -107,19 +108,19 @@ fn read_samples(held: &[u8], count: usize, samples: &mut [i16])
 }
 
 /// Makes the frames of a batch, whose windows are the first that are held.
-pub(crate) fn make_batch<W: FrameWork, R: Threads, G: Gate>(
+pub(crate) fn make_batch<R: Threads, G: Gate>(
     rt: &R,
     batch: Batch,
     framer: &mut Framer,
-    work: &mut W,
+    work: &mut EncoderPair,
     gate: &G,
 )
-    requires kind { W.work.Makes work.old batch.kind }
+    requires kind { pair_work.Makes work.old batch.kind }
     requires rooms { HasFramerRooms framer.old }
     requires held { 2 * batch_len batch.kind batch.count ≤ length framer.old.held.items }
-    ensures works { (s : W.work.function.State) → W.work.Shows work.old s →
-        Framed W.work s batch (samples_of (take (2 * batch_len batch.kind batch.count) framer.old.held.items)) work.new (take (batch.count * batch.bytes) framer.new.frames.items) }
-    ensures kinds { (kind : Kind) → W.work.Makes work.old kind → W.work.Makes work.new kind }
+    ensures works { (s : pair_work.function.State) → pair_work.Shows work.old s →
+        Framed pair_work s batch (samples_of (take (2 * batch_len batch.kind batch.count) framer.old.held.items)) work.new (take (batch.count * batch.bytes) framer.new.frames.items) }
+    ensures kinds { pair_work.Makes work.new batch.kind }
     ensures rooms { HasFramerRooms framer.new }
     ensures held { framer.new.held ≡ framer.old.held }
 {

@@ -1,4 +1,5 @@
 //! The end of a file, in a session that encodes it.
+ghost use Rattle.celt_session.specs.EncoderPairs.{pair_work};
 ghost use Rattle.std.specs.Prelude.{◌≡◌, ◌+◌, ◌^◌, ◌≤◌, ℕ, List, length, false, true};
 ghost use Rattle.celt_base.specs.Outside.{HasCause, WritesAll};
 ghost use Rattle.celt_session.specs.Encodings.{AreSettings};
@@ -7,7 +8,7 @@ ghost use Rattle.celt_session.specs.FrameSessions.{StandsFor, Goes, Ends, HasEnd
 use crate::ended::Ended;
 use crate::ending::{end_samples, settle};
 use crate::frame_session::FrameSession;
-use crate::frame_work::FrameWork;
+use crate::encoder_pair::EncoderPair;
 use celt_base::outside::{Failed, Gate, Sink};
 use celt_base::status::{Fault, FaultName};
 use std::thread::Threads;
@@ -24,18 +25,18 @@ fn is_complete(left: Option<u64>, channels: u8, held: usize) -> bool
 }
 
 /// Ends the file, and adds what all of it gives to the output.
-pub(crate) fn end_session<W: FrameWork + Drop, R: Threads, K: Sink, G: Gate>(
+pub(crate) fn end_session<R: Threads, K: Sink, G: Gate>(
     rt: &R,
-    session: &mut FrameSession<W>,
+    session: &mut FrameSession<EncoderPair>,
     output: &mut K,
     gate: &G,
 ) -> Ended
     requires settings { AreSettings session.old.settings }
     requires going { session.old.is_ended ≡ false }
-    requires goes { Goes W.work session.old }
+    requires goes { Goes pair_work session.old }
     requires limit { session.old.fed ≤ 2 ^ 40 }
-    ensures ends { (bytes : List ℕ) → StandsFor W.work session.old bytes →
-        Ends W.work.function session.old.settings bytes (K.held output.old) (K.held output.new) result }
+    ensures ends { (bytes : List ℕ) → StandsFor pair_work session.old bytes →
+        Ends pair_work.function session.old.settings bytes (K.held output.old) (K.held output.new) result }
     ensures ended { session.new.is_ended ≡ true }
     ensures cause { HasEndedCause (K.faults output.old) (K.faults output.new) result }
 {
@@ -64,17 +65,17 @@ pub(crate) fn end_session<W: FrameWork + Drop, R: Threads, K: Sink, G: Gate>(
 }
 
 /// Gives what no later byte would change, and was not given yet.
-pub(crate) fn settle_session<W: FrameWork + Drop, R: Threads, K: Sink, G: Gate>(
+pub(crate) fn settle_session<R: Threads, K: Sink, G: Gate>(
     rt: &R,
-    session: &mut FrameSession<W>,
+    session: &mut FrameSession<EncoderPair>,
     output: &mut K,
     gate: &G,
 ) -> Result<(), Failed>
     requires going { session.old.is_ended ≡ false }
-    requires goes { Goes W.work session.old }
+    requires goes { Goes pair_work session.old }
     requires limit { session.old.fed ≤ 2 ^ 40 }
-    ensures settled { (bytes : List ℕ) → StandsFor W.work session.old bytes →
-        WritesAll (K.held output.old) (K.held output.new) result (running_more W.work.function session.old.settings bytes) }
+    ensures settled { (bytes : List ℕ) → StandsFor pair_work session.old bytes →
+        WritesAll (K.held output.old) (K.held output.new) result (running_more pair_work.function session.old.settings bytes) }
     ensures cause { HasCause (K.faults output.old) (K.faults output.new) result }
 {
     session.is_ended = true;

@@ -1,4 +1,5 @@
 //! A piece of a file, in a session that encodes it.
+ghost use Rattle.celt_session.specs.EncoderPairs.{pair_work};
 ghost use Rattle.std.specs.Prelude.{◌≡◌, ◌+◌, ◌^◌, ◌≤◌, ◌⊎◌, ◌++◌, ℕ, List, length, false, Some, None};
 ghost use Rattle.celt_session.specs.Sessions.{HasFedCause, ends_session};
 ghost use Rattle.celt_session.specs.Encodings.{AreSettings};
@@ -6,7 +7,7 @@ ghost use Rattle.celt_session.specs.FrameSessions.{StandsFor, Goes, Adds, IsRead
 
 use crate::fed::Fed;
 use crate::frame_session::FrameSession;
-use crate::frame_work::FrameWork;
+use crate::encoder_pair::EncoderPair;
 use crate::recorder::{begin_recording, take_piece};
 use crate::recording::Recording;
 use celt_base::outside::{Gate, Sink};
@@ -14,22 +15,22 @@ use std::thread::Threads;
 use wav_edge::reader::Header;
 
 /// Feeds a piece of samples.
-fn feed_samples<W: FrameWork + Drop, R: Threads, K: Sink, G: Gate>(
+fn feed_samples<R: Threads, K: Sink, G: Gate>(
     rt: &R,
     recording: Recording,
-    session: &mut FrameSession<W>,
+    session: &mut FrameSession<EncoderPair>,
     piece: &[u8],
     output: &mut K,
     gate: &G,
 ) -> Fed
     requires settings { AreSettings session.old.settings }
     requires recording { session.old.recording ≡ Some recording }
-    requires taking { IsTaking W.work recording session.old.maker session.old.fed }
+    requires taking { IsTaking pair_work recording session.old.maker session.old.fed }
     requires limit { session.old.fed + length piece.now ≤ 2 ^ 40 }
-    ensures adds { (bytes : List ℕ) → StandsFor W.work session.old bytes →
-        Adds W.work session.old.settings bytes (bytes ++ piece.now) session.new (K.held output.old) (K.held output.new) result }
+    ensures adds { (bytes : List ℕ) → StandsFor pair_work session.old bytes →
+        Adds pair_work session.old.settings bytes (bytes ++ piece.now) session.new (K.held output.old) (K.held output.new) result }
     ensures ended { session.new.is_ended ≡ ends_session result }
-    ensures goes { session.new.is_ended ≡ false → Goes W.work session.new }
+    ensures goes { session.new.is_ended ≡ false → Goes pair_work session.new }
     ensures settings { session.new.settings ≡ session.old.settings }
     ensures fed { session.new.fed ≡ session.old.fed + length piece.now }
     ensures cause { HasFedCause (K.faults output.old) (K.faults output.new) result }
@@ -50,9 +51,9 @@ fn feed_samples<W: FrameWork + Drop, R: Threads, K: Sink, G: Gate>(
 }
 
 /// Feeds a piece before the samples.
-fn feed_header<W: FrameWork + Drop, R: Threads, K: Sink, G: Gate>(
+fn feed_header<R: Threads, K: Sink, G: Gate>(
     rt: &R,
-    session: &mut FrameSession<W>,
+    session: &mut FrameSession<EncoderPair>,
     piece: &[u8],
     output: &mut K,
     gate: &G,
@@ -60,12 +61,12 @@ fn feed_header<W: FrameWork + Drop, R: Threads, K: Sink, G: Gate>(
     requires settings { AreSettings session.old.settings }
     requires going { session.old.is_ended ≡ false }
     requires recording { session.old.recording ≡ None }
-    requires reading { IsReading W.work session.old }
+    requires reading { IsReading pair_work session.old }
     requires limit { session.old.fed + length piece.now ≤ 2 ^ 40 }
-    ensures adds { (bytes : List ℕ) → StandsFor W.work session.old bytes →
-        Adds W.work session.old.settings bytes (bytes ++ piece.now) session.new (K.held output.old) (K.held output.new) result }
+    ensures adds { (bytes : List ℕ) → StandsFor pair_work session.old bytes →
+        Adds pair_work session.old.settings bytes (bytes ++ piece.now) session.new (K.held output.old) (K.held output.new) result }
     ensures ended { session.new.is_ended ≡ ends_session result }
-    ensures goes { session.new.is_ended ≡ false → Goes W.work session.new }
+    ensures goes { session.new.is_ended ≡ false → Goes pair_work session.new }
     ensures settings { session.new.settings ≡ session.old.settings }
     ensures fed { session.new.fed ≡ session.old.fed + length piece.now }
     ensures cause { HasFedCause (K.faults output.old) (K.faults output.new) result }
@@ -104,21 +105,21 @@ fn feed_header<W: FrameWork + Drop, R: Threads, K: Sink, G: Gate>(
 }
 
 /// Feeds a piece, and adds what it gives to the output.
-pub(crate) fn feed_session<W: FrameWork + Drop, R: Threads, K: Sink, G: Gate>(
+pub(crate) fn feed_session<R: Threads, K: Sink, G: Gate>(
     rt: &R,
-    session: &mut FrameSession<W>,
+    session: &mut FrameSession<EncoderPair>,
     piece: &[u8],
     output: &mut K,
     gate: &G,
 ) -> Fed
     requires settings { AreSettings session.old.settings }
     requires going { session.old.is_ended ≡ false }
-    requires goes { Goes W.work session.old }
+    requires goes { Goes pair_work session.old }
     requires limit { session.old.fed + length piece.now ≤ 2 ^ 40 }
-    ensures adds { (bytes : List ℕ) → StandsFor W.work session.old bytes →
-        Adds W.work session.old.settings bytes (bytes ++ piece.now) session.new (K.held output.old) (K.held output.new) result }
+    ensures adds { (bytes : List ℕ) → StandsFor pair_work session.old bytes →
+        Adds pair_work session.old.settings bytes (bytes ++ piece.now) session.new (K.held output.old) (K.held output.new) result }
     ensures ended { session.new.is_ended ≡ ends_session result }
-    ensures goes { session.new.is_ended ≡ false → Goes W.work session.new }
+    ensures goes { session.new.is_ended ≡ false → Goes pair_work session.new }
     ensures settings { session.new.settings ≡ session.old.settings }
     ensures fed { session.new.fed ≡ session.old.fed + length piece.now }
     ensures cause { HasFedCause (K.faults output.old) (K.faults output.new) result }

@@ -1,5 +1,4 @@
 //! A session: a file in pieces, and the packets of its samples.
-use crate::frame_work::FrameWork;
 use crate::maker::Maker;
 use crate::recording::Recording;
 use crate::settings::Settings;
@@ -7,7 +6,7 @@ use wav_edge::reader::HeaderReader;
 
 /// A file that is read in pieces, and a work on the windows of its samples. It takes no memory after it was made.
 #[derive(Drop)]
-pub(crate) struct FrameSession<W: FrameWork + Drop> {
+pub(crate) struct FrameSession<W: Drop> {
     pub settings: Settings,
     pub header: HeaderReader,
     /// None before the samples begin.

@@ -1,4 +1,5 @@
 //! The frames of samples, batch by batch, and their packets.
+ghost use Rattle.celt_session.specs.EncoderPairs.{pair_work};
 ghost use Rattle.std.specs.Prelude.{◌≡◌, ◌+◌, ◌-◌, ◌*◌, ◌^◌, ◌≤◌, ◌<◌, ◌++◌, ℕ, List, length, take, drop, IfOk, vec_capacity};
 ghost use Rattle.celt_base.specs.Outside.{HasCause};
 ghost use Rattle.celt_session.specs.FrameWorks.{batch_len};
@@ -7,7 +8,7 @@ ghost use Rattle.celt_session.specs.Makers.{plan_frame, group_bytes, HasMade, Is
 
 use crate::batch::Batch;
 use crate::batching::{make_batch, take_in};
-use crate::frame_work::FrameWork;
+use crate::encoder_pair::EncoderPair;
 use crate::maker::Maker;
 use crate::packet_writer::{add_frames, write_full};
 use crate::plan::Plan;
@@ -25,24 +26,24 @@ pub(crate) fn held_len(plan: Plan, count: usize) -> usize
 }
 
 /// Makes so many frames of the first windows that are held, and puts them into packets.
-pub(crate) fn make_frames<W: FrameWork + Drop, R: Threads, K: Sink, G: Gate>(
+pub(crate) fn make_frames<R: Threads, K: Sink, G: Gate>(
     rt: &R,
     plan: Plan,
     count: usize,
-    maker: &mut Maker<W>,
+    maker: &mut Maker<EncoderPair>,
     output: &mut K,
     gate: &G,
 ) -> Result<(), Failed>
     requires some { 1 ≤ count }
     requires few { count ≤ 16 }
-    requires maker { IsMaker W.work plan maker.old }
+    requires maker { IsMaker pair_work plan maker.old }
     requires held { 2 * batch_len plan.kind count ≤ length maker.old.framer.held.items }
     requires packets { maker.old.packer.packets + maker.old.packer.count < 2 ^ 47 }
-    ensures maker { IsMaker W.work plan maker.new }
-    ensures made { (heard : List ℕ) (done : ℕ) → HasMade W.work plan heard done maker.old →
-        Made W.work plan heard (done + count) maker.old.packer.packets maker.new (K.held output.old) (K.held output.new) result }
-    ensures failed { (heard : List ℕ) (done : ℕ) → HasMade W.work plan heard done maker.old →
-        FailsBefore plan (plan_frame W.work.function plan heard) (done + count - 1) maker.old.packer.packets (K.held output.old) (K.held output.new) result }
+    ensures maker { IsMaker pair_work plan maker.new }
+    ensures made { (heard : List ℕ) (done : ℕ) → HasMade pair_work plan heard done maker.old →
+        Made pair_work plan heard (done + count) maker.old.packer.packets maker.new (K.held output.old) (K.held output.new) result }
+    ensures failed { (heard : List ℕ) (done : ℕ) → HasMade pair_work plan heard done maker.old →
+        FailsBefore plan (plan_frame pair_work.function plan heard) (done + count - 1) maker.old.packer.packets (K.held output.old) (K.held output.new) result }
     ensures held { length maker.new.framer.held.items ≡ length maker.old.framer.held.items - group_bytes plan.kind.channels (count * plan.samples) }
     ensures some { IfOk result (λ written. 1 ≤ maker.new.packer.count) }
     ensures sum { maker.new.packer.packets + maker.new.packer.count ≤ maker.old.packer.packets + maker.old.packer.count + count }
@@ -61,19 +62,19 @@ pub(crate) fn make_frames<W: FrameWork + Drop, R: Threads, K: Sink, G: Gate>(
 }
 
 /// Makes 16 frames, and writes the pages of the packets that are full.
-fn make_whole<W: FrameWork + Drop, R: Threads, K: Sink, G: Gate>(
+fn make_whole<R: Threads, K: Sink, G: Gate>(
     rt: &R,
     plan: Plan,
-    maker: &mut Maker<W>,
+    maker: &mut Maker<EncoderPair>,
     output: &mut K,
     gate: &G,
 ) -> Result<(), Failed>
-    requires maker { IsMaker W.work plan maker.old }
+    requires maker { IsMaker pair_work plan maker.old }
     requires held { 2 * batch_len plan.kind 16 ≤ length maker.old.framer.held.items }
     requires packets { maker.old.packer.packets + maker.old.packer.count < 2 ^ 47 }
-    ensures maker { IsMaker W.work plan maker.new }
-    ensures made { (heard : List ℕ) (done : ℕ) → HasMade W.work plan heard done maker.old →
-        Made W.work plan heard (done + 16) maker.old.packer.packets maker.new (K.held output.old) (K.held output.new) result }
+    ensures maker { IsMaker pair_work plan maker.new }
+    ensures made { (heard : List ℕ) (done : ℕ) → HasMade pair_work plan heard done maker.old →
+        Made pair_work plan heard (done + 16) maker.old.packer.packets maker.new (K.held output.old) (K.held output.new) result }
     ensures held { length maker.new.framer.held.items ≡ length maker.old.framer.held.items - group_bytes plan.kind.channels (16 * plan.samples) }
     ensures less { IfOk result (λ written. maker.new.packer.count < plan.group) }
     ensures sum { maker.new.packer.packets + maker.new.packer.count ≤ maker.old.packer.packets + maker.old.packer.count + 16 }
@@ -87,20 +88,20 @@ fn make_whole<W: FrameWork + Drop, R: Threads, K: Sink, G: Gate>(
 
 /// Takes in bytes of samples. Frames are made 16 at a time, as soon as all samples of their windows are held, and
 /// the pages of packets that are full are written.
-pub(crate) fn take_samples<W: FrameWork + Drop, R: Threads, K: Sink, G: Gate>(
+pub(crate) fn take_samples<R: Threads, K: Sink, G: Gate>(
     rt: &R,
     plan: Plan,
     piece: &[u8],
-    maker: &mut Maker<W>,
+    maker: &mut Maker<EncoderPair>,
     output: &mut K,
     gate: &G,
 ) -> Result<(), Failed>
-    requires maker { IsMaker W.work plan maker.old }
+    requires maker { IsMaker pair_work plan maker.old }
     requires going { GoesOn plan maker.old }
     requires packets { maker.old.packer.packets + maker.old.packer.count + length maker.old.framer.held.items + length piece.now < 2 ^ 46 }
-    ensures maker { IsMaker W.work plan maker.new }
-    ensures taken { (heard : List ℕ) (batches : ℕ) → HasMade W.work plan heard (16 * batches) maker.old →
-        Taken W.work plan (heard ++ piece.now) maker.old.packer.packets maker.new (K.held output.old) (K.held output.new) result }
+    ensures maker { IsMaker pair_work plan maker.new }
+    ensures taken { (heard : List ℕ) (batches : ℕ) → HasMade pair_work plan heard (16 * batches) maker.old →
+        Taken pair_work plan (heard ++ piece.now) maker.old.packer.packets maker.new (K.held output.old) (K.held output.new) result }
     ensures going { IfOk result (λ taken. GoesOn plan maker.new) }
     ensures sum { IfOk result (λ taken. maker.new.packer.packets + maker.new.packer.count + length maker.new.framer.held.items
         ≤ maker.old.packer.packets + maker.old.packer.count + length maker.old.framer.held.items + length piece.now) }

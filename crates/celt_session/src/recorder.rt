@@ -1,4 +1,5 @@
 //! The bytes of a file behind its header.
+ghost use Rattle.celt_session.specs.EncoderPairs.{pair_work};
 ghost use Rattle.std.specs.Prelude.{◌≡◌, ◌+◌, ◌*◌, ◌^◌, ◌≤◌, ◌⊎◌, ◌++◌, ℕ, List, [], length, IfOk};
 ghost use Rattle.celt_base.specs.Outside.{HasCause, WritesAll};
 ghost use Rattle.ogg_pages.specs.Spelling.{spelling};
@@ -10,7 +11,7 @@ ghost use Rattle.celt_session.specs.FrameSessions.{IsNew, IsTaking, MakesBoth, l
 
 use crate::batching::fill_up;
 use crate::encoding::write_headers;
-use crate::frame_work::FrameWork;
+use crate::encoder_pair::EncoderPair;
 use crate::maker::Maker;
 use crate::making::{held_len, take_samples};
 use crate::planning::plan_of;
@@ -31,21 +32,21 @@ fn left_behind(left: Option<u64>, count: usize) -> Option<u64>
 }
 
 /// Takes in the bytes of a piece that are those of samples. What follows them is passed over.
-pub(crate) fn take_piece<W: FrameWork + Drop, R: Threads, K: Sink, G: Gate>(
+pub(crate) fn take_piece<R: Threads, K: Sink, G: Gate>(
     rt: &R,
     recording: &mut Recording,
     piece: &[u8],
-    maker: &mut Maker<W>,
+    maker: &mut Maker<EncoderPair>,
     output: &mut K,
     gate: &G,
 ) -> Result<(), Failed>
-    requires taking { IsTaking W.work recording.old maker.old (2 ^ 40) }
+    requires taking { IsTaking pair_work recording.old maker.old (2 ^ 40) }
     requires short { length piece.now ≤ 2 ^ 40 }
     ensures plan { recording.new.plan ≡ recording.old.plan }
     ensures left { recording.new.left ≡ left_of recording.old.left (length piece.now) }
-    ensures taken { (heard : List ℕ) (batches : ℕ) → HasMade W.work recording.old.plan heard (16 * batches) maker.old →
-        Taken W.work recording.old.plan (heard ++ kept_within recording.old.left piece.now) maker.old.packer.packets maker.new (K.held output.old) (K.held output.new) result }
-    ensures taking { IfOk result (λ taken. (fed : ℕ) → IsTaking W.work recording.old maker.old fed → IsTaking W.work recording.new maker.new (fed + length piece.now)) }
+    ensures taken { (heard : List ℕ) (batches : ℕ) → HasMade pair_work recording.old.plan heard (16 * batches) maker.old →
+        Taken pair_work recording.old.plan (heard ++ kept_within recording.old.left piece.now) maker.old.packer.packets maker.new (K.held output.old) (K.held output.new) result }
+    ensures taking { IfOk result (λ taken. (fed : ℕ) → IsTaking pair_work recording.old maker.old fed → IsTaking pair_work recording.new maker.new (fed + length piece.now)) }
     ensures cause { HasCause (K.faults output.old) (K.faults output.new) result }
 {
     let kept = within_size(recording.left, piece);
@@ -54,19 +55,19 @@ pub(crate) fn take_piece<W: FrameWork + Drop, R: Threads, K: Sink, G: Gate>(
 }
 
 /// Begins the samples: writes the pages of the headers, and holds the lead of samples of 0.
-pub(crate) fn begin_recording<W: FrameWork + Drop, K: Sink>(
+pub(crate) fn begin_recording<K: Sink>(
     settings: Settings,
     channels: u8,
     size: Option<u64>,
-    maker: &mut Maker<W>,
+    maker: &mut Maker<EncoderPair>,
     output: &mut K,
 ) -> Result<Recording, Failed>
     requires settings { AreSettings settings }
     requires channels { (channels ≡ 1) ⊎ (channels ≡ 2) }
-    requires new { IsNew W.work maker.old }
-    requires makes { MakesBoth W.work settings maker.old.work }
+    requires new { IsNew pair_work maker.old }
+    requires makes { MakesBoth pair_work settings maker.old.work }
     ensures bytes { WritesAll (K.held output.old) (K.held output.new) result (spelling (head_page channels) ++ spelling tags_page) }
-    ensures begun { IfOk result (λ r. IsBegun W.work settings channels size maker.old r maker.new) }
+    ensures begun { IfOk result (λ r. IsBegun pair_work settings channels size maker.old r maker.new) }
     ensures cause { HasCause (K.faults output.old) (K.faults output.new) result }
 {
     let plan = plan_of(settings, channels);

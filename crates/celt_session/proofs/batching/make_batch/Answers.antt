@@ -1,3 +1,4 @@
+use Rattle.celt_session.specs.EncoderPairs.{pair_work}
 use Rattle.std.proofs.Common.{◌≡◌, ◌+◌, ◌-◌, ◌*◌, ◌++◌, take, ap, sym, subst, ◌∙◌, arith, length}
 use borrow.Rule.Slice.PartMut.{post_of, mid_of, same_len_mid}
 use Rattle.wav_edge.specs.Samples.{samples_of}
@@ -25,8 +26,8 @@ returns-clause-works g c = λ s shown.
     let e = ap length c.deref_mut-2.ensures.value in
     len ∙ front_len n c.deref_mut-2.result.now (omega arith) in
     let front = lent_front c.args.framer.now.frames n out (post_of 0 (n - 0) c.deref_mut-2.result.now) short all in
-    subst (Framed g.W.FrameWork.work s b (samples_of (take (2 * batch_len b.kind b.count) held)) c.frames.new.self) (sym front)
-    (subst (λ l. Framed g.W.FrameWork.work s b l c.frames.new.self out) samples (c.frames.ensures.works s shown))
+    subst (Framed pair_work s b (samples_of (take (2 * batch_len b.kind b.count) held)) c.frames.new.self) (sym front)
+    (subst (λ l. Framed pair_work s b l c.frames.new.self out) samples (c.frames.ensures.works s shown))
 
 pub returns-clause-rooms : goal.returns-clause-rooms
 returns-clause-rooms g c =

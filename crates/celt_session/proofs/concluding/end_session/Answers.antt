@@ -1,3 +1,4 @@
+use Rattle.celt_session.specs.EncoderPairs.{pair_work}
 use Rattle.std.proofs.Common.{ap, sym, subst, ◌∙◌}
 use Rattle.std.specs.Io.KnownBytes.{Appends}
 use Rattle.celt_base.specs.Outside.{AppendsFront}
@@ -7,14 +8,14 @@ use Rattle.celt_session.proofs.concluding.end_session.Goals as goal
 
 pub returns-in_default-clause-ends : goal.returns-in_default-clause-ends
 returns-in_default-clause-ends g c = λ bytes stands.
-    let w = g.W.FrameWork.work in
+    let w = pair_work in
     let s = c.args.session.now in
     let h : BeforeSamples w s bytes = subst (StandsBy w s bytes) c.in_default.is stands in
     (header_fault bytes h.between c.end.result h.unfinished (c.end.ensures bytes h.reads), full_none w.function s.settings bytes h.between (g.K.Sink.held c.args.output.now) h.unfinished)
 
 pub returns-in-Ok-clause-ends : goal.returns-in-Ok-clause-ends
 returns-in-Ok-clause-ends g c = λ bytes stands.
-    let w = g.W.FrameWork.work in
+    let w = pair_work in
     let s = c.args.session.now in
     let r = c.in-Some.recording in
     let h : AmongSamples w s.settings r s.maker s.fed bytes = subst (StandsBy w s bytes) c.in-Some.is stands in
@@ -29,7 +30,7 @@ returns-in-Ok-clause-ends g c = λ bytes stands.
 
 pub returns-in-Err-clause-ends : goal.returns-in-Err-clause-ends
 returns-in-Err-clause-ends g c = λ bytes stands.
-    let w = g.W.FrameWork.work in
+    let w = pair_work in
     let s = c.args.session.now in
     let r = c.in-Some.recording in
     let h : AmongSamples w s.settings r s.maker s.fed bytes = subst (StandsBy w s bytes) c.in-Some.is stands in
@@ -42,7 +43,7 @@ returns-in-Err-clause-ends g c = λ bytes stands.
 
 pub returns-in-Ok-settle-clause-ends : goal.returns-in-Ok-settle-clause-ends
 returns-in-Ok-settle-clause-ends g c = λ bytes stands.
-    let w = g.W.FrameWork.work in
+    let w = pair_work in
     let s = c.args.session.now in
     let r = c.in-Some.recording in
     let h : AmongSamples w s.settings r s.maker s.fed bytes = subst (StandsBy w s bytes) c.in-Some.is stands in
@@ -54,7 +55,7 @@ returns-in-Ok-settle-clause-ends g c = λ bytes stands.
 
 pub returns-in-Err-settle-clause-ends : goal.returns-in-Err-settle-clause-ends
 returns-in-Err-settle-clause-ends g c = λ bytes stands.
-    let w = g.W.FrameWork.work in
+    let w = pair_work in
     let s = c.args.session.now in
     let r = c.in-Some.recording in
     let h : AmongSamples w s.settings r s.maker s.fed bytes = subst (StandsBy w s bytes) c.in-Some.is stands in

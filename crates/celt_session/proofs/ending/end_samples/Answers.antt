@@ -1,3 +1,4 @@
+use Rattle.celt_session.specs.EncoderPairs.{pair_work}
 use Rattle.std.proofs.Common.{◌+◌, ◌-◌, ◌*◌, ◌/◌, ◌<◌, length, ap, sym, subst, ◌∙◌, refl}
 use Rattle.celt_session.specs.Windows.{lead}
 use Rattle.celt_session.specs.Makers.{group_bytes}
@@ -22,7 +23,7 @@ write_packet-requires-clause-granule g c =
 
 pub returns-in_default-clause-ends : goal.returns-in_default-clause-ends
 returns-in_default-clause-ends g c = λ heard batches even h.
-    let w = g.W.FrameWork.work in
+    let w = pair_work in
     let p = c.args.plan in
     let m = c.args.maker.now in
     let groups = c.held_groups-groups.result in
@@ -35,7 +36,7 @@ returns-in_default-clause-ends g c = λ heard batches even h.
 
 pub returns-clause-ends : goal.returns-clause-ends
 returns-clause-ends g c = λ heard batches even h.
-    let w = g.W.FrameWork.work in
+    let w = pair_work in
     let p = c.args.plan in
     let m = c.args.maker.now in
     let groups = c.held_groups-groups.result in

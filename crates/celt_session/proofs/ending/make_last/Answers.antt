@@ -1,3 +1,4 @@
+use Rattle.celt_session.specs.EncoderPairs.{pair_work}
 use Rattle.std.proofs.Common.{◌≡◌, ◌+◌, ◌-◌, ◌<◌, min, arith}
 use Rattle.celt_session.proofs.MakerLemmas.{with_held}
 use Rattle.celt_session.proofs.LastFrames.{fills_none, fills_held, fills_more, fills_failed, fills_before, fills_all}
@@ -9,13 +10,13 @@ loop-made-init g c = record {
   maker = c.requires.maker;
   some = λ h. absurd (omega arith);
   sum = omega arith;
-  fills = λ heard done h. fills_none g.W.FrameWork.work c.args.plan heard done c.args.maker.now (g.K.Sink.held c.args.output.now) h;
+  fills = λ heard done h. fills_none pair_work c.args.plan heard done c.args.maker.now (g.K.Sink.held c.args.output.now) h;
   kept = omega arith;
 }
 
 pub loop-made-preserved : goal.loop-made-preserved
 loop-made-preserved g c =
-    let w = g.W.FrameWork.work in
+    let w = pair_work in
     let i = c.loop-made.invariant in
     let e = c.in-Ok.ensures in
     let p = c.args.plan in
@@ -37,7 +38,7 @@ loop-made-preserved g c =
 
 pub returns-in_default-clause-last : goal.returns-in_default-clause-last
 returns-in_default-clause-last g c = λ heard done even h.
-    let w = g.W.FrameWork.work in
+    let w = pair_work in
     let i = c.loop-made.invariant in
     let p = c.args.plan in
     let old = g.K.Sink.held c.args.output.now in
@@ -51,7 +52,7 @@ returns-in_default-clause-last g c = λ heard done even h.
 
 pub returns-in_default-clause-failed : goal.returns-in_default-clause-failed
 returns-in_default-clause-failed g c = λ heard done even h.
-    let w = g.W.FrameWork.work in
+    let w = pair_work in
     let i = c.loop-made.invariant in
     let p = c.args.plan in
     let old = g.K.Sink.held c.args.output.now in
@@ -67,4 +68,4 @@ pub returns-clause-last : goal.returns-clause-last
 returns-clause-last g c = λ heard done even h.
     let i = c.loop-made.invariant in
     let all : c.loop-made.made ≡ c.args.frames = let a = i.made_few in let b = c.loop-made-test.false in omega arith in
-    fills_all g.W.FrameWork.work c.args.plan heard done c.loop-made.made c.args.frames c.args.maker.now.packer.packets c.loop-made.maker (g.K.Sink.held c.args.output.now) (g.K.Sink.held c.loop-made.output) even all (i.fills heard done h)
+    fills_all pair_work c.args.plan heard done c.loop-made.made c.args.frames c.args.maker.now.packer.packets c.loop-made.maker (g.K.Sink.held c.args.output.now) (g.K.Sink.held c.loop-made.output) even all (i.fills heard done h)

@@ -1,3 +1,4 @@
+use Rattle.celt_session.specs.EncoderPairs.{pair_work}
 use Rattle.std.proofs.Common.{◌≡◌, ◌+◌, ◌-◌, ◌*◌, ◌/◌, ◌≤◌, length, ap, sym, subst, ◌∙◌, arith}
 use Rattle.celt_session.specs.Windows.{lead}
 use Rattle.celt_session.specs.Makers.{group_bytes, settled_for}
@@ -20,7 +21,7 @@ make_frames-requires-clause-held g c κs within =
 
 pub returns-then-count-eq0-clause-settled : goal.returns-then-count-eq0-clause-settled
 returns-then-count-eq0-clause-settled g c = λ heard batches h.
-    let w = g.W.FrameWork.work in
+    let w = pair_work in
     let p = c.args.plan in
     let m = c.args.maker.now in
     let len = c.len.ensures ∙ m.framer.held.ok.0 in
@@ -31,7 +32,7 @@ returns-then-count-eq0-clause-settled g c = λ heard batches h.
 
 pub returns-in_default-clause-settled : goal.returns-in_default-clause-settled
 returns-in_default-clause-settled g c = λ heard batches h.
-    let w = g.W.FrameWork.work in
+    let w = pair_work in
     let p = c.args.plan in
     let m = c.args.maker.now in
     let len = c.len.ensures ∙ m.framer.held.ok.0 in
@@ -42,7 +43,7 @@ returns-in_default-clause-settled g c = λ heard batches h.
 
 pub returns-clause-settled : goal.returns-clause-settled
 returns-clause-settled g c = λ heard batches h.
-    let w = g.W.FrameWork.work in
+    let w = pair_work in
     let p = c.args.plan in
     let m = c.args.maker.now in
     let len = c.len.ensures ∙ m.framer.held.ok.0 in

@@ -1,3 +1,4 @@
+use Rattle.celt_session.specs.EncoderPairs.{pair_work}
 use Rattle.std.proofs.Common.{◌≡◌, arith, ◌-◌, length-drop, ◌+◌, ◌++◌, [], length, ap, subst, ◌∙◌, sym}
 use Rattle.celt_session.specs.declared.plan.Plan.{Plan}
 use Rattle.celt_session.specs.Makers.{GoesOn}
@@ -7,7 +8,7 @@ use Rattle.celt_session.proofs.feeding.feed_header.Goals as goal
 
 pub returns-in-Need-clause-adds : goal.returns-in-Need-clause-adds
 returns-in-Need-clause-adds g c = λ bytes stands.
-    let w = g.W.FrameWork.work in
+    let w = pair_work in
     let s = c.args.session.now in
     let now = bytes ++ c.args.piece.now in
     let h : BeforeSamples w s bytes = subst (StandsBy w s bytes) c.requires.recording stands in
@@ -19,7 +20,7 @@ returns-in-Need-clause-adds g c = λ bytes stands.
 
 pub returns-in-Fault-clause-adds : goal.returns-in-Fault-clause-adds
 returns-in-Fault-clause-adds g c = λ bytes stands.
-    let w = g.W.FrameWork.work in
+    let w = pair_work in
     let s = c.args.session.now in
     let now = bytes ++ c.args.piece.now in
     let h : BeforeSamples w s bytes = subst (StandsBy w s bytes) c.requires.recording stands in
@@ -28,7 +29,7 @@ returns-in-Fault-clause-adds g c = λ bytes stands.
 
 pub returns-in_default-clause-adds : goal.returns-in_default-clause-adds
 returns-in_default-clause-adds g c = λ bytes stands.
-    let w = g.W.FrameWork.work in
+    let w = pair_work in
     let s = c.args.session.now in
     let d = c.in-Data in
     let now = bytes ++ c.args.piece.now in
@@ -38,7 +39,7 @@ returns-in_default-clause-adds g c = λ bytes stands.
 
 pub returns-in-Ok-take_piece-clause-adds : goal.returns-in-Ok-take_piece-clause-adds
 returns-in-Ok-take_piece-clause-adds g c = λ bytes stands.
-    let w = g.W.FrameWork.work in
+    let w = pair_work in
     let s = c.args.session.now in
     let d = c.in-Data in
     let r = c.in-Ok.recording in
@@ -69,7 +70,7 @@ returns-in-Ok-take_piece-clause-goes g c = λ going.
 
 pub returns-in-Err-clause-adds : goal.returns-in-Err-clause-adds
 returns-in-Err-clause-adds g c = λ bytes stands.
-    let w = g.W.FrameWork.work in
+    let w = pair_work in
     let s = c.args.session.now in
     let d = c.in-Data in
     let r = c.in-Ok.recording in

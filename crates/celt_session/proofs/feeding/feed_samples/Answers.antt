@@ -1,3 +1,4 @@
+use Rattle.celt_session.specs.EncoderPairs.{pair_work}
 use Rattle.std.proofs.Common.{◌++◌, drop, subst}
 use Rattle.wav_edge.specs.Reading.{within_size}
 use Rattle.celt_session.specs.declared.plan.Plan.{Plan}
@@ -8,7 +9,7 @@ use Rattle.celt_session.proofs.feeding.feed_samples.Goals as goal
 
 pub returns-in-Ok-clause-adds : goal.returns-in-Ok-clause-adds
 returns-in-Ok-clause-adds g c = λ bytes stands.
-    let w = g.W.FrameWork.work in
+    let w = pair_work in
     let s = c.args.session.now in
     let r = c.args.recording in
     let h : AmongSamples w s.settings r s.maker s.fed bytes = subst (StandsBy w s bytes) c.requires.recording stands in
@@ -27,7 +28,7 @@ returns-in-Ok-clause-goes g c = λ going. c.in-Ok.ensures.taking c.args.session.
 
 pub returns-in-Err-clause-adds : goal.returns-in-Err-clause-adds
 returns-in-Err-clause-adds g c = λ bytes stands.
-    let w = g.W.FrameWork.work in
+    let w = pair_work in
     let s = c.args.session.now in
     let r = c.args.recording in
     let h : AmongSamples w s.settings r s.maker s.fed bytes = subst (StandsBy w s bytes) c.requires.recording stands in

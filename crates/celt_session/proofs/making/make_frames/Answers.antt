@@ -1,3 +1,4 @@
+use Rattle.celt_session.specs.EncoderPairs.{pair_work}
 use Rattle.std.proofs.Common.{◌≡◌, ◌*◌, take, drop, ap, ◌∙◌, refl, length, length-drop}
 use Rattle.celt_session.specs.Makers.{group_bytes}
 use Rattle.celt_session.proofs.WindowLemmas.{used-is}
@@ -6,7 +7,7 @@ use Rattle.celt_session.proofs.making.make_frames.Goals as goal
 
 pub returns-clause-made : goal.returns-clause-made
 returns-clause-made g c = λ heard done h.
-    let w = g.W.FrameWork.work in
+    let w = pair_work in
     let plan = c.args.plan in
     let m = c.args.maker.now in
     let f = c.make_batch.ensures.works _ h.shows in
@@ -27,7 +28,7 @@ returns-clause-held g c =
 
 pub returns-clause-failed : goal.returns-clause-failed
 returns-clause-failed g c = λ heard done h.
-    let w = g.W.FrameWork.work in
+    let w = pair_work in
     let plan = c.args.plan in
     let m = c.args.maker.now in
     let f = c.make_batch.ensures.works _ h.shows in

@@ -1,3 +1,4 @@
+use Rattle.celt_session.specs.EncoderPairs.{pair_work}
 use Rattle.std.proofs.Common.{◌≡◌, ℕ, ◌-◌, ◌*◌, ◌≤◌, ◌++◌, [], List, length, take, drop, min, ap, sym, subst, ◌∙◌, refl, arith, append_assoc, length-append, length-take}
 use Rattle.std.proofs.lemmas.List.{take-append-drop}
 use Rattle.std.proofs.lemmas.Nat.{mul-le}
@@ -22,13 +23,13 @@ loop-rest-init g c = record {
   maker = c.requires.maker;
   going = c.requires.going;
   sum = omega arith;
-  taken = λ heard batches h. takes_none g.W.FrameWork.work c.args.plan heard batches c.args.maker.now (g.K.Sink.held c.args.output.now) h;
+  taken = λ heard batches h. takes_none pair_work c.args.plan heard batches c.args.maker.now (g.K.Sink.held c.args.output.now) h;
   kept = omega arith;
 }
 
 pub loop-rest-preserved : goal.loop-rest-preserved
 loop-rest-preserved g c =
-    let w = g.W.FrameWork.work in
+    let w = pair_work in
     let i = c.loop-rest.invariant in
     let e = c.take_in-count.ensures in
     let rest = c.loop-rest.rest.now in
@@ -56,7 +57,7 @@ loop-rest-preserved g c =
 
 pub loop-rest-preserved-in-Ok-1 : goal.loop-rest-preserved-in-Ok-1
 loop-rest-preserved-in-Ok-1 g c =
-    let w = g.W.FrameWork.work in
+    let w = pair_work in
     let i = c.loop-rest.invariant in
     let e = c.take_in-count.ensures in
     let m = c.in-Ok.ensures in
@@ -85,7 +86,7 @@ loop-rest-preserved-in-Ok-1 g c =
 
 pub returns-in_default-clause-taken : goal.returns-in_default-clause-taken
 returns-in_default-clause-taken g c = λ heard batches h.
-    let w = g.W.FrameWork.work in
+    let w = pair_work in
     let i = c.loop-rest.invariant in
     let e = c.take_in-count.ensures in
     let m = c.in_default.ensures in
