@@ -1,5 +1,6 @@
 use Rattle.celt_session.specs.EncoderPairs.{pair_work}
-use Rattle.std.proofs.Common.{◌≡◌, ◌+◌, ◌-◌, ◌*◌, ◌/◌, ◌≤◌, length, ap, sym, subst, ◌∙◌, arith}
+use Rattle.std.proofs.Common.{◌≡◌, ◌+◌, ◌-◌, ◌*◌, ◌/◌, ◌<◌, ◌≤◌, ℕ, length, ap, sym, subst, ◌∙◌, arith}
+use Rattle.celt_session.proofs.PairSteps.{few_held}
 use Rattle.celt_session.specs.Windows.{lead}
 use Rattle.celt_session.specs.Makers.{group_bytes, settled_for}
 use Rattle.celt_session.proofs.PacketLemmas.{wrote_none}
@@ -56,3 +57,14 @@ returns-clause-settled g c = λ heard batches h.
     let new = g.K.Sink.held c.write_full.new.output in
     let full = then_full w p heard (16 * batches + count) m.packer.packets c.make_frames.new.maker c.write_full.new.packer old mid new c.write_full.result made (c.write_full.ensures.packed _ _ (plan_long w.function p heard) made.made.packs) in
     settles_all p _ (16 * batches + count) m.packer.packets (settled_for p heard) is c.write_full.new.packer old new c.write_full.result (packed_of w p heard (16 * batches + count) m.packer.packets _ old new c.write_full.result full) c.write_full.ensures.less
+
+pub make_frames-requires-clause-few : goal.make_frames-requires-clause-few
+make_frames-requires-clause-few g c κs within =
+    let p = c.args.plan in
+    let n : ℕ = length c.args.maker.now.framer.held.items in
+    let t = (plan_sizes p).0 in
+    let len = c.len.ensures ∙ c.args.maker.now.framer.held.ok.0 in
+    let e = ap (λ k. k / p.samples) (c.held_groups.ensures ∙ ap (λ k. (k - group_bytes p.kind.channels lead) / (2 * p.kind.channels)) len) in
+    let room : n < 2 * (p.kind.channels * (1145 + 16 * p.samples)) = subst (λ k. n < 2 * (p.kind.channels * (1145 + 16 * k))) (sym p.samples_is) c.requires.going.held in
+    let few = few_held p.kind.channels p.samples n p.kind.some_channel (omega arith) room in
+    omega (arith, e, few)

@@ -1,5 +1,6 @@
 use Rattle.celt_session.specs.EncoderPairs.{pair_work}
-use Rattle.std.proofs.Common.{◌≡◌, ◌*◌, take, drop, ap, ◌∙◌, refl, length, length-drop}
+use Rattle.std.proofs.Common.{◌≡◌, ◌+◌, ◌*◌, ◌≤◌, take, drop, ap, sym, subst, ◌∙◌, refl, length, length-drop, arith}
+use Rattle.celt_session.proofs.PairSteps.{used_within}
 use Rattle.celt_session.specs.Makers.{group_bytes}
 use Rattle.celt_session.proofs.WindowLemmas.{used-is}
 use Rattle.celt_session.proofs.MakerLemmas.{plan_long, batch_frames, batch_shows, batch_made}
@@ -34,3 +35,13 @@ returns-clause-failed g c = λ heard done h.
     let f = c.make_batch.ensures.works _ h.shows in
     let frames = batch_frames w plan heard m.framer.held.items done _ _ _ refl refl h.held c.requires.held f in
     c.add_frames.ensures.failed _ done (plan_long w.function plan heard) h.packs (c.split_at.ensures.front ∙ ap (take (c.args.count * plan.bytes)) c.deref.ensures.value ∙ frames)
+
+pub drop_front-requires : goal.drop_front-requires
+drop_front-requires g c =
+    let plan = c.args.plan in
+    let used : 2 * c.from.result * c.args.count * plan.samples ≡ group_bytes plan.kind.channels (c.args.count * plan.samples) = ap (λ n. 2 * n * c.args.count * plan.samples) c.from.ensures ∙ used-is plan.kind.channels c.args.count plan.samples in
+    let held : 2 * (plan.kind.channels * (1145 + c.args.count * plan.samples)) ≤ length c.args.maker.now.framer.held.items =
+    subst (λ k. 2 * (plan.kind.channels * (1145 + c.args.count * k)) ≤ length c.args.maker.now.framer.held.items) (sym plan.samples_is) c.requires.held in
+    let within = used_within plan.kind.channels c.args.count plan.samples (length c.args.maker.now.framer.held.items) held in
+    let same = ap (λ v. length v.items) c.make_batch.ensures.held in
+    omega (arith, used, within, same)
