@@ -68,7 +68,7 @@ on_after row e analyses bytes count lengths on hears (suc k) le =
     let before = on_after row e analyses bytes count lengths on hears k (omega arith) in
     let next = on_next row.kind (encoder_after e analyses bytes k) (state_before encoded_frames row k) (analyses k) bytes (row.window k) before (hears k (omega arith)) in
     subst (λ b. IsOn row.kind (after_frame (encoder_after e analyses bytes k) (analyses k) bytes) (footing_after (state_before encoded_frames row k) row.kind b (row.window k)))
-        (sym (lengths k)) next
+    (sym (lengths k)) next
 
 pub frame_same : (row : Row encoded_frames) (e : EncoderState) (analyses : ℕ → Analysis) (bytes count : ℕ) → ((k : ℕ) → row.bytes k ≡ bytes)
     → IsOn row.kind e row.from

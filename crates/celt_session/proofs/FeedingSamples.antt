@@ -12,7 +12,7 @@ use Rattle.celt_base.specs.declared.status.FaultName.TheVariants as names
 use Rattle.celt_base.specs.Outside.{AppendsFront}
 use Rattle.celt_base.proofs.Causes.{longer_front, then_front}
 use Rattle.ogg_pages.specs.Spelling.{spelling}
-use Rattle.wav_edge.specs.Reading.{Outcome, outcome, within_size, samples, sample_bytes, is_whole, IsHeaderFault}
+use Rattle.wav_edge.specs.Reading.{Outcome, outcome, read, within_size, samples, sample_bytes, is_whole, IsHeaderFault}
 use Rattle.wav_edge.specs.Reading.Outcome.{Unfinished, Faulty, Started}
 use Rattle.wav_edge.specs.Samples.{samples_of}
 use Rattle.std.specs.List.{flat_map}
@@ -160,7 +160,7 @@ text_from plan frame p q h =
     ap (pages_text plan frame 0) e ∙ text-join plan frame 0 p (q - p) ∙ ap (λ n. pages_text plan frame 0 p ++ pages_text plan frame n (q - p)) none
 
 -- the first pages stay
-text_stays : (f : FrameFunction) (plan : Plan) (heard more : List ℕ) (done p : ℕ) → group_bytes plan.kind.channels (done * plan.samples) ≤ length heard → p * plan.group ≤ done
+pub text_stays : (f : FrameFunction) (plan : Plan) (heard more : List ℕ) (done p : ℕ) → group_bytes plan.kind.channels (done * plan.samples) ≤ length heard → p * plan.group ≤ done
     → pages_text plan (plan_frame f plan (heard ++ more)) 0 p ≡ pages_text plan (plan_frame f plan heard) 0 p
 text_stays f plan heard more done p within some =
     let none : p - 0 ≡ p = omega arith in
@@ -177,17 +177,21 @@ pub record GoOn (plan : Plan) (settings : Settings) (channels : ℕ) (size : Opt
 
 module _ {W : Type 0} (w : FrameWorks W) (settings : Settings) (plan : Plan) (channels place : ℕ) (size : Option ℕ) (heard more bytes now : List ℕ) (goes : GoOn plan settings channels size place heard more bytes now) where
   -- what more bytes give, where so many frames were made before
-  given_on : (batches packets : ℕ) → group_bytes plan.kind.channels (16 * batches * plan.samples) ≤ length heard → packets * plan.group ≤ 16 * batches → packets_for plan heard ≡ packets → packets ≤ packets_for plan (heard ++ more)
-      → given_more w.function settings bytes now ≡ pages_text plan (plan_frame w.function plan (heard ++ more)) packets (packets_for plan (heard ++ more) - packets)
-  given_on batches packets within some is ahead =
+  pub given_split : (batches packets : ℕ) → group_bytes plan.kind.channels (16 * batches * plan.samples) ≤ length heard → packets * plan.group ≤ 16 * batches → packets_for plan heard ≡ packets → packets ≤ packets_for plan (heard ++ more)
+      → given w.function settings now ≡ given w.function settings bytes ++ pages_text plan (plan_frame w.function plan (heard ++ more)) packets (packets_for plan (heard ++ more) - packets)
+  given_split batches packets within some is ahead =
       let frame = plan_frame w.function plan (heard ++ more) in
       let all = packets_for plan (heard ++ more) in
       let first = given_text w.function plan settings channels heard bytes goes.before size place goes.begun ∙ ap (λ n. headers_for channels ++ pages_text plan (plan_frame w.function plan heard) 0 n) is in
-      more_is w.function settings bytes now (pages_text plan frame packets (all - packets))
-      (given_text w.function plan settings channels (heard ++ more) now goes.after size place goes.going
+      given_text w.function plan settings channels (heard ++ more) now goes.after size place goes.going
       ∙ ap (λ l. headers_for channels ++ l) (text_from plan frame packets all ahead ∙ ap (λ l. l ++ pages_text plan frame packets (all - packets)) (text_stays w.function plan heard more (16 * batches) packets within some))
       ∙ sym (append_assoc (headers_for channels) (pages_text plan (plan_frame w.function plan heard) 0 packets) (pages_text plan frame packets (all - packets)))
-      ∙ ap (λ l. l ++ pages_text plan frame packets (all - packets)) (sym first))
+      ∙ ap (λ l. l ++ pages_text plan frame packets (all - packets)) (sym first)
+
+  given_on : (batches packets : ℕ) → group_bytes plan.kind.channels (16 * batches * plan.samples) ≤ length heard → packets * plan.group ≤ 16 * batches → packets_for plan heard ≡ packets → packets ≤ packets_for plan (heard ++ more)
+      → given_more w.function settings bytes now ≡ pages_text plan (plan_frame w.function plan (heard ++ more)) packets (packets_for plan (heard ++ more) - packets)
+  given_on batches packets within some is ahead =
+      more_is w.function settings bytes now (pages_text plan (plan_frame w.function plan (heard ++ more)) packets (packets_for plan (heard ++ more) - packets)) (given_split batches packets within some is ahead)
 
   -- all samples were taken in
   pub adds_taken : (batches : ℕ) (m after : Maker W) (old new : Option (List ℕ)) → HasMade w plan heard (16 * batches) m → GoesOn plan m → TakesAll w plan (heard ++ more) m.packer.packets after old new → GoesOn plan after
@@ -367,3 +371,15 @@ begins_at bytes channels rate place size e same = e ∙ ap (λ n. Started channe
 -- a session stands for these bytes, before the samples and among them
 pub stands_before : {W : Type 0} (w : FrameWorks W) (s : FrameSession W) (bytes : List ℕ) → s.recording ≡ None → BeforeSamples w s bytes → StandsFor w s bytes
 stands_before w s bytes e h = subst (StandsBy w s bytes) (sym e) h
+
+-- no bytes
+
+nothing : outcome [] ≡ Unfinished false
+unfolding outcome read
+nothing = refl
+
+pub before_nothing : (bytes : List ℕ) → bytes ≡ [] → outcome bytes ≡ Unfinished false
+before_nothing bytes e = ap outcome e ∙ nothing
+
+pub given_start : (f : FrameFunction) (settings : Settings) (held : Option (List ℕ)) → Appends held held (given f settings [])
+given_start f settings held = subst (Appends held held) (sym (given_none f settings [] false nothing)) (Appends-nil held)

@@ -34,7 +34,7 @@ wanted_end f start limit xs fault few sound is =
     ∙ ap (λ l. ended_status (fault_of f start l)) (take_all limit xs few)
     ∙ ap ended_status (sym (is ∙ ends_by (fault_of f start xs) sound))
 
-front_taken : (limit : ℕ) (now zs : List ℕ) → length now ≤ limit → take limit (now ++ zs) ≡ now ++ take (limit - length now) zs
+pub front_taken : (limit : ℕ) (now zs : List ℕ) → length now ≤ limit → take limit (now ++ zs) ≡ now ++ take (limit - length now) zs
 front_taken limit now zs h =
     let e : limit ≡ length now + (limit - length now) = omega arith in
     ap (λ n. take n (now ++ zs)) e ∙ take-append-add now zs (limit - length now)

@@ -1,7 +1,7 @@
 -- The pages that a session gives, by what its maker has made.
 use Rattle.std.proofs.Common.{◌≡◌, ℕ, ℤ, ◌+◌, ◌*◌, ◌/◌, ◌≤◌, ◌<◌, ◌⊎◌, List, ◌++◌, length, drop, Option, sym, ◌∙◌, ap, subst, arith, append_assoc}
 use Rattle.std.specs.List.{flat_map}
-use Rattle.std.proofs.Math.Nat.{mul_assoc, mul-add, add-mul, one-mul, div-div-eq-div-mul, div-eq_of_lt-le, mul_comm}
+use Rattle.std.proofs.Math.Nat.{mul_assoc, mul-add, add-mul, one-mul, div-div-eq-div-mul, div-eq_of_lt-le, div-mul-le_self, mul_comm}
 use Rattle.std.proofs.Math.Seq.{drop-append_seam}
 use Rattle.std.proofs.lemmas.Nat.{mul-le, le-div, div-mul-add}
 use Rattle.ogg_pages.specs.Fields.{Page}
@@ -57,6 +57,12 @@ module _ (channels frame count batches : ℕ) (some : 1 ≤ channels) (more : 1 
       let c = one-mul size in
       let d = mul_assoc 2 channels (16 * frame) in
       whole ∙ div-eq_of_lt-le size (omega arith) (omega arith)
+
+  pub batches_within : group_bytes channels (16 * (count / 2 / channels / (16 * frame)) * frame) ≤ count
+  batches_within =
+      let a = size_is (count / size) in
+      let b = div-mul-le_self count size in
+      subst (λ n. group_bytes channels (16 * n * frame) ≤ count) (sym whole) (omega arith)
 
   pub batches_least : group_bytes channels (16 * batches * frame) ≤ count → batches ≤ count / 2 / channels / (16 * frame)
   batches_least low =
@@ -146,14 +152,24 @@ module _ {W : Type 0} (w : FrameWorks W) (plan : Plan) (heard : List ℕ) where
       let are = batches_are plan.kind.channels plan.samples (length heard) batches plan.kind.some_channel (omega arith) h.within (omega arith) in
       ap (λ n. 16 * n / plan.group) are ∙ ap (λ n. n / plan.group) (sym h.packs.place) ∙ div-mul-add m.packer.packets plan.group m.packer.count going.less
 
-  pub packets_least : (batches until : ℕ) → group_bytes plan.kind.channels (16 * batches * plan.samples) ≤ length heard → until * plan.group ≤ 16 * batches
-      → until ≤ packets_for plan heard
-  packets_least batches until within some =
-      let sizes = plan_sizes plan in
-      let least = sizes.0 in
-      let b = batches_least plan.kind.channels plan.samples (length heard) batches plan.kind.some_channel (omega arith) within in
-      let positive : 0 < plan.group = let s = plan.some in omega arith in
-      le-div until (16 * (length heard / 2 / plan.kind.channels / (16 * plan.samples))) plan.group positive (omega arith)
+pub least_packets : (plan : Plan) (heard : List ℕ) (batches until : ℕ) → group_bytes plan.kind.channels (16 * batches * plan.samples) ≤ length heard → until * plan.group ≤ 16 * batches → until ≤ packets_for plan heard
+least_packets plan heard batches until within some =
+    let sizes = plan_sizes plan in
+    let least = sizes.0 in
+    let b = batches_least plan.kind.channels plan.samples (length heard) batches plan.kind.some_channel (omega arith) within in
+    let positive : 0 < plan.group = let s = plan.some in omega arith in
+    le-div until (16 * (length heard / 2 / plan.kind.channels / (16 * plan.samples))) plan.group positive (omega arith)
+
+pub packets_least : {W : Type 0} (w : FrameWorks W) (plan : Plan) (heard : List ℕ) (batches until : ℕ) → group_bytes plan.kind.channels (16 * batches * plan.samples) ≤ length heard → until * plan.group ≤ 16 * batches
+    → until ≤ packets_for plan heard
+packets_least w plan heard = least_packets plan heard
+
+-- the frames that are made of some bytes are there
+pub frames_within : (plan : Plan) (heard : List ℕ) → group_bytes plan.kind.channels (16 * (length heard / 2 / plan.kind.channels / (16 * plan.samples)) * plan.samples) ≤ length heard
+frames_within plan heard =
+    let sizes = plan_sizes plan in
+    let least = sizes.0 in
+    batches_within plan.kind.channels plan.samples (length heard) 0 plan.kind.some_channel (omega arith)
 
 -- ---- what more bytes give
 

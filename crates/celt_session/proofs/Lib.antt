@@ -9,6 +9,7 @@ pub mod FeedingSamples
 pub mod Finishing
 pub mod Folding
 pub mod Framing
+pub mod GivenLaws
 pub mod GivenPages
 pub mod Going
 pub mod KindFacts
@@ -25,6 +26,7 @@ pub mod Sampling
 pub mod SilentFrame
 pub mod Sounding
 pub mod Starting
+pub mod StreamedFile
 pub mod WaveLemmas
 pub mod WholeInput
 pub mod WholeReads

@@ -3,6 +3,8 @@ use Rattle.std.specs.Prelude.{◌≡◌, ℕ, ◌+◌, ◌-◌, ◌*◌, ◌/◌
 use Rattle.std.specs.List.{flat_map}
 use Rattle.std.specs.Io.KnownBytes.{Appends}
 use Rattle.celt_base.specs.declared.status.Fault.{Fault}
+use Rattle.celt_base.specs.declared.status.Status.{Status}
+use Rattle.celt_base.specs.declared.status.Status.TheVariants as statuses
 use Rattle.celt_base.specs.Outside.{AppendsFront, Rose}
 use Rattle.ogg_pages.specs.Fields.{Page}
 use Rattle.ogg_pages.specs.Spelling.{spelling}
@@ -163,3 +165,9 @@ HasEndedCause before now NotWritten = Rose before now
 abbrev pub is_complete : Option ℕ → ℕ → ℕ → Bool
 is_complete None channels held = held % (2 * channels) == 0
 is_complete (Some left) channels held = left == 0
+
+-- the status of an input that ends within the limit
+abbrev pub status_of : Ended → Status
+status_of Done = statuses.Done
+status_of (CutShort fault) = statuses.Refused fault
+status_of NotWritten = statuses.WriteFault

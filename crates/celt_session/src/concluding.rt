@@ -5,10 +5,10 @@ ghost use Rattle.celt_base.specs.Outside.{HasCause, WritesAll};
 ghost use Rattle.celt_session.specs.Encodings.{AreSettings};
 ghost use Rattle.celt_session.specs.FrameSessions.{StandsFor, Goes, Ends, HasEndedCause, is_complete, running_more};
 
+use crate::encoder_pair::EncoderPair;
 use crate::ended::Ended;
 use crate::ending::{end_samples, settle};
 use crate::frame_session::FrameSession;
-use crate::encoder_pair::EncoderPair;
 use celt_base::outside::{Failed, Gate, Sink};
 use celt_base::status::{Fault, FaultName};
 use std::thread::Threads;

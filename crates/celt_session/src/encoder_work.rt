@@ -151,8 +151,21 @@ impl EncoderWork {
             count: batch.count,
             trail: self.trail,
         };
-        self.trail = hear(rt, self.slots.as_mut_slice(), samples, before, &self.tables, gate);
+        self.trail = hear(
+            rt,
+            self.slots.as_mut_slice(),
+            samples,
+            before,
+            &self.tables,
+            gate,
+        );
         let (slots, _) = self.slots.as_slice().split_at(batch.count);
-        encode_slots(&mut self.encoder, slots, &mut self.symbols, batch.bytes, out);
+        encode_slots(
+            &mut self.encoder,
+            slots,
+            &mut self.symbols,
+            batch.bytes,
+            out,
+        );
     }
 }

@@ -5,9 +5,9 @@ ghost use Rattle.celt_session.specs.Sessions.{HasFedCause, ends_session};
 ghost use Rattle.celt_session.specs.Encodings.{AreSettings};
 ghost use Rattle.celt_session.specs.FrameSessions.{StandsFor, Goes, Adds, IsReading, IsTaking};
 
+use crate::encoder_pair::EncoderPair;
 use crate::fed::Fed;
 use crate::frame_session::FrameSession;
-use crate::encoder_pair::EncoderPair;
 use crate::recorder::{begin_recording, take_piece};
 use crate::recording::Recording;
 use celt_base::outside::{Gate, Sink};

@@ -10,8 +10,8 @@ ghost use Rattle.celt_session.specs.Makers.{HasMade, Taken};
 ghost use Rattle.celt_session.specs.FrameSessions.{IsNew, IsTaking, MakesBoth, left_of, IsBegun};
 
 use crate::batching::fill_up;
-use crate::encoding::write_headers;
 use crate::encoder_pair::EncoderPair;
+use crate::encoding::write_headers;
 use crate::maker::Maker;
 use crate::making::{held_len, take_samples};
 use crate::planning::plan_of;

@@ -16,7 +16,7 @@ use std::thread::Threads;
 const READ_LEN: usize = 65536;
 
 /// The room for one read.
-fn read_room(alloc: Global) -> Result<Vec<u8>, OutOfMemory>
+pub(crate) fn read_room(alloc: Global) -> Result<Vec<u8>, OutOfMemory>
     ensures { IfOk result (λ v. length v.items ≡ READ_LEN) }
 {
     match vec![in alloc; 0u8; READ_LEN] {
@@ -26,7 +26,7 @@ fn read_room(alloc: Global) -> Result<Vec<u8>, OutOfMemory>
 }
 
 /// What of bytes is within what the limit leaves.
-fn within(read: &[u8], left: u64) -> &[u8]
+pub(crate) fn within(read: &[u8], left: u64) -> &[u8]
     ensures { result.now ≡ take left read.now }
 {
     if read.len() as u64 <= left {

@@ -16,9 +16,9 @@ loop-made-preserved c =
     let slot = c.index-slots-made.result in
     let now = c.loop-made.encoder in
     encoding_more c.args.encoder.now now c.frame.new.self c.args.slots.now c.args.bytes c.loop-made.made c.loop-made.out c.frame.new.room slot c.loop-made-test.true
-        (omega (arith, room)) (c.frame.ensures.len ∙ part)
-        (c.frame.ensures.state ∙ ap (after_frame now (slice_index_or c.args.slots.now c.loop-made.made slot).analysis) part) c.frame.ensures.kind
-        (c.frame.ensures.bytes ∙ ap (encoded now (slice_index_or c.args.slots.now c.loop-made.made slot).analysis) part) c.loop-made.invariant
+    (omega (arith, room)) (c.frame.ensures.len ∙ part)
+    (c.frame.ensures.state ∙ ap (after_frame now (slice_index_or c.args.slots.now c.loop-made.made slot).analysis) part) c.frame.ensures.kind
+    (c.frame.ensures.bytes ∙ ap (encoded now (slice_index_or c.args.slots.now c.loop-made.made slot).analysis) part) c.loop-made.invariant
 
 pub returns-clause-encoder : goal.returns-clause-encoder
 returns-clause-encoder c = λ analyses hold.
@@ -33,4 +33,4 @@ returns-clause-frames c = λ analyses hold.
     let test = c.loop-made-test.false in
     let room : length c.loop-made.out ≡ length c.args.slots.now * c.args.bytes = c.loop-made.auto.out ∙ c.requires.room in
     made_all (frame_of_slots c.args.encoder.now analyses c.args.bytes) c.args.bytes c.loop-made.made (length c.args.slots.now) c.loop-made.out
-        (c.loop-made.invariant.frames analyses hold) few (omega (arith, test)) room
+    (c.loop-made.invariant.frames analyses hold) few (omega (arith, test)) room

@@ -9,4 +9,4 @@ loop-k-init c = filled_none c.args.kind (window_at c.args.kind c.args.samples.no
 pub loop-k-preserved : goal.loop-k-preserved
 loop-k-preserved c =
     filled_more c.args.kind (window_at c.args.kind c.args.samples.now) c.loop-k.slots c.loop-k.k c.fill_window.new.slot (omega arith)
-        (c.fill_window.ensures ∙ c.window_in.ensures.value) (ap length (sym c.window_in.ensures.value) ∙ c.window_in.ensures.len) c.loop-k.invariant
+    (c.fill_window.ensures ∙ c.window_in.ensures.value) (ap length (sym c.window_in.ensures.value) ∙ c.window_in.ensures.len) c.loop-k.invariant

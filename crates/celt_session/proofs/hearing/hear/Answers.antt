@@ -7,13 +7,13 @@ use Rattle.celt_session.proofs.hearing.hear.Goals as goal
 pub hear_all-requires-clause-windows : goal.hear_all-requires-clause-windows
 hear_all-requires-clause-windows g c = λ κs lives.
     All-same (IsWindow c.args.before.kind) c.split_at_mut-front.result.0.now (take c.args.before.count c.args.slots.now) c.split_at_mut-front.ensures.front
-        (All-take (IsWindow c.args.before.kind) c.args.before.count c.args.slots.now c.requires.windows)
+    (All-take (IsWindow c.args.before.kind) c.args.before.count c.args.slots.now c.requires.windows)
 
 pub returns-clause-sizes : goal.returns-clause-sizes
 returns-clause-sizes g c =
     All-append (IsWindow c.args.before.kind) c.hear_all.new.slots c.split_at_mut-front.result.1.now c.hear_all.ensures.sizes
-        (All-same (IsWindow c.args.before.kind) c.split_at_mut-front.result.1.now (drop c.args.before.count c.args.slots.now) c.split_at_mut-front.ensures.back
-            (All-drop (IsWindow c.args.before.kind) c.args.before.count c.args.slots.now c.requires.windows))
+    (All-same (IsWindow c.args.before.kind) c.split_at_mut-front.result.1.now (drop c.args.before.count c.args.slots.now) c.split_at_mut-front.ensures.back
+    (All-drop (IsWindow c.args.before.kind) c.args.before.count c.args.slots.now c.requires.windows))
 
 pub returns-clause-heard : goal.returns-clause-heard
 returns-clause-heard g c =

@@ -13,7 +13,7 @@ analyse_batch-requires g c =
     sizes_stay kind c.fill_windows.new.slots c.pitch_batch.new.slots (omega arith) c.fill_windows.ensures.sizes (λ k d less. (c.pitch_batch.ensures k d less).window) in
     let passed : AreWindows kind c.pass_settings-trail.new.slots =
     sizes_stay kind c.pitch_batch.new.slots c.pass_settings-trail.new.slots (omega arith) sizes
-        (λ k d less. (c.pass_settings-trail.ensures.passed (pitches_of kind windows) owns k d less).window) in
+    (λ k d less. (c.pass_settings-trail.ensures.passed (pitches_of kind windows) owns k d less).window) in
     (c.type_bounds.sync-G, passed)
 
 pub returns-clause-sizes : goal.returns-clause-sizes
@@ -25,7 +25,7 @@ returns-clause-sizes g c =
     sizes_stay kind c.fill_windows.new.slots c.pitch_batch.new.slots (omega arith) c.fill_windows.ensures.sizes (λ k d less. (c.pitch_batch.ensures k d less).window) in
     let passed : AreWindows kind c.pass_settings-trail.new.slots =
     sizes_stay kind c.pitch_batch.new.slots c.pass_settings-trail.new.slots (omega arith) sizes
-        (λ k d less. (c.pass_settings-trail.ensures.passed (pitches_of kind windows) owns k d less).window) in
+    (λ k d less. (c.pass_settings-trail.ensures.passed (pitches_of kind windows) owns k d less).window) in
     sizes_stay kind c.pass_settings-trail.new.slots c.analyse_batch.new.slots (omega arith) passed (λ k d less. (c.analyse_batch.ensures k d less).window)
 
 pub returns-clause-heard : goal.returns-clause-heard
@@ -35,7 +35,7 @@ returns-clause-heard g c =
     let owns = owns_pitches kind windows c.fill_windows.new.slots c.pitch_batch.new.slots (omega arith) c.fill_windows.ensures.windows c.pitch_batch.ensures in
     let holds = windows_stay windows c.fill_windows.new.slots c.pitch_batch.new.slots (omega arith) c.fill_windows.ensures.windows (λ k d less. (c.pitch_batch.ensures k d less).window) in
     hears_all kind windows c.args.before.trail c.pitch_batch.new.slots c.pass_settings-trail.new.slots c.analyse_batch.new.slots (omega arith) (omega arith) holds
-        (c.pass_settings-trail.ensures.passed (pitches_of kind windows) owns) c.analyse_batch.ensures
+    (c.pass_settings-trail.ensures.passed (pitches_of kind windows) owns) c.analyse_batch.ensures
 
 pub returns-clause-trail : goal.returns-clause-trail
 returns-clause-trail g c =

@@ -9,7 +9,7 @@ loop-k-init c = λ own owns. passing_none own c.args.trail c.args.slots.now
 pub loop-k-preserved : goal.loop-k-preserved
 loop-k-preserved c = λ own owns.
     passing_more own c.args.trail c.args.slots.now c.loop-k.slots c.loop-k.now c.pass_slot-now.result c.loop-k.k _ c.pass_slot-now.new.slot owns (omega arith) (omega arith)
-        (record { settings = c.pass_slot-now.ensures.settings; window = c.pass_slot-now.ensures.window; trail = c.pass_slot-now.ensures.trail }) (c.loop-k.invariant own owns)
+    (record { settings = c.pass_slot-now.ensures.settings; window = c.pass_slot-now.ensures.window; trail = c.pass_slot-now.ensures.trail }) (c.loop-k.invariant own owns)
 
 pub returns-clause-passed : goal.returns-clause-passed
 returns-clause-passed c = λ own owns k d less. (c.loop-k.invariant own owns).done k d (omega arith)

@@ -14,9 +14,9 @@ returns-clause-makes c = λ channels either.
       | inl one ↦
           subst (λ n. MakesEither p (kind_of (toc_of (coding_of c.args.settings) n))) (sym one)
           (subst (MakesEither p) (c.plan_of.result.kind_is ∙ ap kind_of c.plan_of.ensures.toc)
-              (makes_mono p c.plan_of.result.kind refl c.plan_of.ensures.channels c.in-Ok.ensures.makes))
+          (makes_mono p c.plan_of.result.kind refl c.plan_of.ensures.channels c.in-Ok.ensures.makes))
       | inr two ↦
           subst (λ n. MakesEither p (kind_of (toc_of (coding_of c.args.settings) n))) (sym two)
           (subst (MakesEither p) (c.plan_of-2.result.kind_is ∙ ap kind_of c.plan_of-2.ensures.toc)
-              (makes_stereo p c.plan_of-2.result.kind refl c.plan_of-2.ensures.channels c.in-Ok-new.ensures.makes))
+          (makes_stereo p c.plan_of-2.result.kind refl c.plan_of-2.ensures.channels c.in-Ok-new.ensures.makes))
     ]

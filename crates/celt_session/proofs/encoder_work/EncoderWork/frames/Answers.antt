@@ -18,7 +18,7 @@ encode_slots-requires-clause-kinds g c = λ k d less.
     let size : length c.hear-self.new.slots ≡ w.slots.len = omega (arith, len, same, heard_len) in
     let front = c.split_at.ensures.front ∙ ap (take c.args.batch.count) (c.as_slice.ensures.value ∙ all_left c.hear-self.new.slots (drop (length c.hear-self.new.slots) w.slots.items) w.slots.len size) in
     heard_kinds w.kind (window_at w.kind c.args.samples.now) w.trail c.split_at.result.0.now w.encoder c.requires.kind.encoder
-        (subst (HoldHeard w.kind (window_at w.kind c.args.samples.now) w.trail) (sym front) c.hear-self.ensures.heard) k d less
+    (subst (HoldHeard w.kind (window_at w.kind c.args.samples.now) w.trail) (sym front) c.hear-self.ensures.heard) k d less
 
 pub returns-clause-works : goal.returns-clause-works
 returns-clause-works g c = λ s shown.
@@ -39,9 +39,9 @@ returns-clause-works g c = λ s shown.
     let kind = c.requires.kind.kind_is in
     let left =
     batch_left (row_at s samples bytes w.kind) bytes count w.encoder c.encode_slots.new.encoder w.trail c.hear-self.result c.encode_slots.new.out (λ k. refl) shown.encoder
-        (record { earlier = shown.earlier; last = shown.last }) c.hear-self.ensures.trail
-        (c.encode_slots.ensures.encoder analyses hold ∙ ap (encoder_after w.encoder analyses bytes) many)
-        (c.encode_slots.ensures.frames analyses hold ∙ ap (λ n. concat (frames_from (frame_of_slots w.encoder analyses bytes) 0 n)) many) in
+    (record { earlier = shown.earlier; last = shown.last }) c.hear-self.ensures.trail
+    (c.encode_slots.ensures.encoder analyses hold ∙ ap (encoder_after w.encoder analyses bytes) many)
+    (c.encode_slots.ensures.frames analyses hold ∙ ap (λ n. concat (frames_from (frame_of_slots w.encoder analyses bytes) 0 n)) many) in
     record {
       shows = record {
         encoder = subst (λ k. IsOn w.kind c.encode_slots.new.encoder (state_before encoded_frames (row_at s samples bytes k) count)) kind left.on;

@@ -1,0 +1,6 @@
+use Rattle.std.proofs.Common.{[], false, refl}
+use Rattle.celt_session.proofs.FeedingSamples.{before_nothing}
+use Rattle.celt_session.proofs.streaming.new_session.Goals as goal
+
+pub returns-in-Ok-new_packer-clause-stands : goal.returns-in-Ok-new_packer-clause-stands
+returns-in-Ok-new_packer-clause-stands c = record { reads = (c.new-in-Ok-new_packer.ensures.stands []).1 refl; between = false; unfinished = before_nothing [] refl; shows = c.in-Ok.ensures.shows }
