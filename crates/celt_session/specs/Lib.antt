@@ -2,6 +2,7 @@ pub mod AudioPages
 pub mod Choices
 pub mod Decoders
 pub mod Decoding
+pub mod EncodeSessions
 pub mod EncodedFrames
 pub mod EncoderPairs
 pub mod EncoderWorks

@@ -38,6 +38,8 @@ pub(crate) fn end_session<R: Threads, K: Sink, G: Gate>(
     ensures ends { (bytes : List ℕ) → StandsFor pair_work session.old bytes →
         Ends pair_work.function session.old.settings bytes (K.held output.old) (K.held output.new) result }
     ensures ended { session.new.is_ended ≡ true }
+    ensures settings { session.new.settings ≡ session.old.settings }
+    ensures fed { session.new.fed ≡ session.old.fed }
     ensures cause { HasEndedCause (K.faults output.old) (K.faults output.new) result }
 {
     session.is_ended = true;

@@ -9,6 +9,7 @@ mod coding;
 mod concluding;
 mod decoding;
 mod encode;
+mod encode_session;
 mod encoded_laws;
 mod encoder_pair;
 mod encoder_work;
@@ -46,7 +47,9 @@ mod work;
 
 pub use decoding::{DecodeSession, decode_stream};
 pub use encode::encode_stream;
+pub use encode_session::EncodeSession;
 pub use encoding_laws::{law_frames, law_silent_frame, law_stream_goes_on, law_wave_fault_stays};
+pub use ended::Ended;
 pub use fed::Fed;
 pub use laws::{law_failed_write, law_fault_stays, law_pieces, law_running_goes_on};
 pub use settings::{DecodeSettings, Form, Settings};
