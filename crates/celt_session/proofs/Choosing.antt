@@ -26,23 +26,3 @@ first_works a b self x y heard old new result s is works shows = first_by a b x 
 pub second_works : {A B : Type 0} (a : Works A) (b : Works B) (self : Choice A B) (x y : B) (heard : Heard) (old new : Option (List ℕ)) (result : Result (Unit {0}) Failed) (s : a.function.State ⊎ b.function.State) → self ≡ Second x
     → ((s : b.function.State) → b.Shows x s → Worked b s heard y old new result) → choice_shows a b self s → Worked (choice_work a b) s heard (Second y) old new result
 second_works a b self x y heard old new result s is works shows = second_by a b x y heard old new result s works (subst (λ t. choice_shows a b t s) is shows)
-
--- ---- whether a page is built
-
-first_tells : {A B : Type 0} (a : Works A) (b : Works B) (x : A) (heard : Heard) (result : Option ℕ) (s : a.function.State ⊎ b.function.State)
-    → ((s : a.function.State) → a.Shows x s → result ≡ a.function.unbuilt s heard) → choice_shows a b (First x) s → result ≡ (choice_work a b).function.unbuilt s heard
-first_tells a b x heard result (inl s) tells shows = tells s shows
-first_tells a b x heard result (inr s) tells shows = absurd shows
-
-second_tells : {A B : Type 0} (a : Works A) (b : Works B) (x : B) (heard : Heard) (result : Option ℕ) (s : a.function.State ⊎ b.function.State)
-    → ((s : b.function.State) → b.Shows x s → result ≡ b.function.unbuilt s heard) → choice_shows a b (Second x) s → result ≡ (choice_work a b).function.unbuilt s heard
-second_tells a b x heard result (inr s) tells shows = tells s shows
-second_tells a b x heard result (inl s) tells shows = absurd shows
-
-pub first_unbuilt : {A B : Type 0} (a : Works A) (b : Works B) (self : Choice A B) (x : A) (heard : Heard) (result : Option ℕ) (s : a.function.State ⊎ b.function.State) → self ≡ First x
-    → ((s : a.function.State) → a.Shows x s → result ≡ a.function.unbuilt s heard) → choice_shows a b self s → result ≡ (choice_work a b).function.unbuilt s heard
-first_unbuilt a b self x heard result s is tells shows = first_tells a b x heard result s tells (subst (λ t. choice_shows a b t s) is shows)
-
-pub second_unbuilt : {A B : Type 0} (a : Works A) (b : Works B) (self : Choice A B) (x : B) (heard : Heard) (result : Option ℕ) (s : a.function.State ⊎ b.function.State) → self ≡ Second x
-    → ((s : b.function.State) → b.Shows x s → result ≡ b.function.unbuilt s heard) → choice_shows a b self s → result ≡ (choice_work a b).function.unbuilt s heard
-second_unbuilt a b self x heard result s is tells shows = second_tells a b x heard result s tells (subst (λ t. choice_shows a b t s) is shows)

@@ -1,5 +1,5 @@
 -- The frames of an encoder.
-use Rattle.std.proofs.Common.{◌≡◌, ℕ, ◌≤◌, ◌∙◌, refl, arith, List, ℤ}
+use Rattle.std.proofs.Common.{◌≡◌, ℕ, ◌≤◌, arith, List, ℤ}
 use Rattle.std.specs.Prelude.{min, max}
 use Rattle.celt_base.specs.declared.kind.Kind.{Kind}
 use Rattle.celt_base.specs.declared.state.Setting.{Setting}

@@ -11,8 +11,8 @@ use Rattle.celt_base.specs.declared.status.Status.{Status}
 use Rattle.celt_base.specs.declared.status.Status.TheVariants as statuses
 use Rattle.celt_base.specs.Outside.{AppendsFront}
 use Rattle.celt_base.proofs.Causes.{then_front, longer_front}
-use Rattle.opus_stream.specs.Acceptance.{is_end_name, end_by}
-use Rattle.celt_session.specs.PageFunctions.{PageFunction, said, running, full, added_by, fault_of, lasting, fault_now, end_fault}
+use Rattle.opus_stream.specs.Acceptance.{fault_of, is_end_name, end_by}
+use Rattle.celt_session.specs.PageFunctions.{PageFunction, said, running, full, added_by, lasting, fault_now, end_fault}
 use Rattle.celt_session.specs.Outcomes.{meaning, ended_status, cut_status_by, cut_status, status_by, wanted, Answers, Writes, AddsTaken}
 use Rattle.celt_session.proofs.Starting.{no_pages}
 use Rattle.celt_session.proofs.Folding.{none-said, running-front, running-is, full-is, lasting_is, lasts, fault_stays}
@@ -26,13 +26,13 @@ ends_by (Some fault) h = by (is_end_name fault.name) h where
   by true e = refl
   by false e = cc
 
-pub wanted_end : (f : PageFunction) (start : f.State) (limit : ℕ) (xs : List ℕ) (fault : Option Fault) → length xs ≤ limit → fault_now f start xs ≡ None → fault ≡ end_fault f start xs
+pub wanted_end : (f : PageFunction) (start : f.State) (limit : ℕ) (xs : List ℕ) (fault : Option Fault) → length xs ≤ limit → fault_now xs ≡ None → fault ≡ end_fault xs
     → wanted (meaning f start) limit xs ≡ ended_status fault
 unfolding wanted
 wanted_end f start limit xs fault few sound is =
-    ap (λ b. status_by is_end_name b (fault_of f start (take limit xs))) (le-ltb limit (length xs) few)
-    ∙ ap (λ l. ended_status (fault_of f start l)) (take_all limit xs few)
-    ∙ ap ended_status (sym (is ∙ ends_by (fault_of f start xs) sound))
+    ap (λ b. status_by is_end_name b (fault_of (take limit xs))) (le-ltb limit (length xs) few)
+    ∙ ap (λ l. ended_status (fault_of l)) (take_all limit xs few)
+    ∙ ap ended_status (sym (is ∙ ends_by (fault_of xs) sound))
 
 pub front_taken : (limit : ℕ) (now zs : List ℕ) → length now ≤ limit → take limit (now ++ zs) ≡ now ++ take (limit - length now) zs
 front_taken limit now zs h =
@@ -45,11 +45,11 @@ refused_by b o fault h = by b (lasting_is o fault h) where
   by false l = ap ended_status l.0
   by true l = ap (cut_status is_end_name) l.0 ∙ ap (λ t. cut_status_by t fault) l.1
 
-pub wanted_fault : (f : PageFunction) (start : f.State) (limit : ℕ) (now zs : List ℕ) (fault : Fault) → length now ≤ limit → fault_now f start now ≡ Some fault
+pub wanted_fault : (f : PageFunction) (start : f.State) (limit : ℕ) (now zs : List ℕ) (fault : Fault) → length now ≤ limit → fault_now now ≡ Some fault
     → wanted (meaning f start) limit (now ++ zs) ≡ statuses.Refused fault
 unfolding wanted
 wanted_fault f start limit now zs fault few h =
-    refused_by (nat_lt limit (length (now ++ zs))) (fault_of f start (take limit (now ++ zs))) fault (ap (fault_now f start) (front_taken limit now zs few) ∙ fault_stays f start now (take (limit - length now) zs) fault h)
+    refused_by (nat_lt limit (length (now ++ zs))) (fault_of (take limit (now ++ zs))) fault (ap (fault_now) (front_taken limit now zs few) ∙ fault_stays now (take (limit - length now) zs) fault h)
 
 long_by : (o : Option Fault) → lasting o ≡ None → cut_status is_end_name o ≡ statuses.InputTooLong
 long_by None h = refl
@@ -61,13 +61,13 @@ long_by (Some fault) h = by (is_end_name fault.name) h where
 pub first_is : (limit : ℕ) (now zs : List ℕ) → length now ≡ limit → take limit (now ++ zs) ≡ now
 first_is limit now zs e = ap (λ n. take n (now ++ zs)) (sym e) ∙ take-append_seam now zs
 
-pub wanted_long : (f : PageFunction) (start : f.State) (limit : ℕ) (now zs : List ℕ) → length now ≡ limit → 0 < length zs → fault_now f start now ≡ None
+pub wanted_long : (f : PageFunction) (start : f.State) (limit : ℕ) (now zs : List ℕ) → length now ≡ limit → 0 < length zs → fault_now now ≡ None
     → wanted (meaning f start) limit (now ++ zs) ≡ statuses.InputTooLong
 unfolding wanted
 wanted_long f start limit now zs e more h =
     let len = length-append now zs in
-    ap (λ b. status_by is_end_name b (fault_of f start (take limit (now ++ zs)))) (lt-ltb limit (length (now ++ zs)) (omega arith))
-    ∙ ap (λ l. cut_status is_end_name (fault_of f start l)) (first_is limit now zs e) ∙ long_by (fault_of f start now) h
+    ap (λ b. status_by is_end_name b (fault_of (take limit (now ++ zs)))) (lt-ltb limit (length (now ++ zs)) (omega arith))
+    ∙ ap (λ l. cut_status is_end_name (fault_of l)) (first_is limit now zs e) ∙ long_by (fault_of now) h
 
 -- an answer as it stands
 pub answers_end : (want : Status) (fault : Option Fault) (status : Status) → want ≡ ended_status fault → status ≡ ended_status fault → Answers want status
@@ -86,7 +86,7 @@ pub added_twice : (f : PageFunction) (start : f.State) (taken piece : List ℕ) 
     → Appends old new (running f start (taken ++ piece))
 added_twice f start taken piece old mid new a b = subst (Appends old new) (sym (running-front f start taken piece)) (Appends-trans old mid new (running f start taken) (added_by f start taken (taken ++ piece)) a b)
 
-pub writes_fault : (f : PageFunction) (start : f.State) (now zs : List ℕ) (fault : Fault) (old new : Option (List ℕ)) → fault_now f start now ≡ Some fault → Appends old new (running f start now)
+pub writes_fault : (f : PageFunction) (start : f.State) (now zs : List ℕ) (fault : Fault) (old new : Option (List ℕ)) → fault_now now ≡ Some fault → Appends old new (running f start now)
     → Appends old new (full f start (now ++ zs))
 writes_fault f start now zs fault old new h a = subst (Appends old new) (sym (full-is f start (now ++ zs) ∙ (lasts f start now zs fault h).text)) a
 
@@ -160,23 +160,23 @@ within_len taken read left limit e =
 
 module _ (f : PageFunction) (start : f.State) (limit left : ℕ) (old mid new : Option (List ℕ)) (taken read piece : List ℕ) (before between after : Option (List ℕ))
     (first : Consumes old mid taken) (second : Consumes mid new read) (piece_is : piece ≡ take left read) (all : length taken + left ≡ limit) where
-  pub fault_answers : (fault : Fault) → fault_now f start (taken ++ piece) ≡ Some fault → IfSome old (λ xs. wanted (meaning f start) limit xs ≡ statuses.Refused fault)
+  pub fault_answers : (fault : Fault) → fault_now (taken ++ piece) ≡ Some fault → IfSome old (λ xs. wanted (meaning f start) limit xs ≡ statuses.Refused fault)
   fault_answers fault h =
       known old mid new taken read left (λ xs. wanted (meaning f start) limit xs ≡ statuses.Refused fault) first second
-      (λ zs. wanted_fault f start limit (taken ++ take left read) (drop left read ++ zs) fault (within_len taken read left limit all) (subst (λ l. fault_now f start (taken ++ l) ≡ Some fault) piece_is h))
+      (λ zs. wanted_fault f start limit (taken ++ take left read) (drop left read ++ zs) fault (within_len taken read left limit all) (subst (λ l. fault_now (taken ++ l) ≡ Some fault) piece_is h))
 
-  pub fault_writes : (fault : Fault) → fault_now f start (taken ++ piece) ≡ Some fault → Appends before between (running f start taken) → Appends between after (added_by f start taken (taken ++ piece))
+  pub fault_writes : (fault : Fault) → fault_now (taken ++ piece) ≡ Some fault → Appends before between (running f start taken) → Appends between after (added_by f start taken (taken ++ piece))
       → IfSome old (λ xs. Appends before after (full f start xs))
   fault_writes fault h a b =
       known old mid new taken read left (λ xs. Appends before after (full f start xs)) first second
-      (λ zs. writes_fault f start (taken ++ take left read) (drop left read ++ zs) fault before after (subst (λ l. fault_now f start (taken ++ l) ≡ Some fault) piece_is h)
+      (λ zs. writes_fault f start (taken ++ take left read) (drop left read ++ zs) fault before after (subst (λ l. fault_now (taken ++ l) ≡ Some fault) piece_is h)
       (subst (λ l. Appends before after (running f start (taken ++ l))) piece_is (added_twice f start taken piece before between after a b)))
 
-  pub long_answers : left < length read → fault_now f start (taken ++ piece) ≡ None → IfSome old (λ xs. wanted (meaning f start) limit xs ≡ statuses.InputTooLong)
+  pub long_answers : left < length read → fault_now (taken ++ piece) ≡ None → IfSome old (λ xs. wanted (meaning f start) limit xs ≡ statuses.InputTooLong)
   long_answers more h =
       known old mid new taken read left (λ xs. wanted (meaning f start) limit xs ≡ statuses.InputTooLong) first second
       (λ zs. wanted_long f start limit (taken ++ take left read) (drop left read ++ zs) (cut_len taken read left limit all more) (over_len read zs left more)
-      (subst (λ l. fault_now f start (taken ++ l) ≡ None) piece_is h))
+      (subst (λ l. fault_now (taken ++ l) ≡ None) piece_is h))
 
   pub long_writes : left < length read → Appends before between (running f start taken) → Appends between after (added_by f start taken (taken ++ piece))
       → IfSome old (λ xs. Appends before after (running f start (take limit xs)))

@@ -4,11 +4,10 @@ use Rattle.std.specs.Prelude.{if◌then◌else◌}
 use Rattle.std.proofs.Math.Seq.{drop-append_seam}
 use Rattle.celt_base.specs.declared.status.Fault.{Fault}
 use Rattle.ogg_pages.specs.Fields.{Page}
-use Rattle.opus_stream.specs.Acceptance.{accepted, fault_of as stream_fault, is_end_name}
-use Rattle.opus_stream.specs.Audio.{first_fault}
+use Rattle.opus_stream.specs.Acceptance.{accepted, fault_of, is_end_name}
 use Rattle.opus_stream.proofs.Prefixes.{accepted_more, stays}
 use Rattle.celt_session.specs.Pages.{Heard, heard_at, heard_after}
-use Rattle.celt_session.specs.PageFunctions.{PageFunction, state_after, said_by, says_of, earlier, unbuilt_in, said, unbuilt_on, running, full, added_by, unbuilt_fault, fault_of, lasting, fault_now}
+use Rattle.celt_session.specs.PageFunctions.{PageFunction, state_after, says_of, said, running, full, added_by, lasting, fault_now}
 use Rattle.celt_session.specs.Sessions.{said_behind}
 
 -- ---- pages that are heard
@@ -24,26 +23,11 @@ unfolding state_after
 state-append f s [] ys = refl
 state-append f s (x ∷ xs) ys = state-append f (f.next s x) xs ys
 
-unbuilt-append : (f : PageFunction) (s : f.State) (xs ys : List Heard) → unbuilt_in f s (xs ++ ys) ≡ earlier (unbuilt_in f s xs) (unbuilt_in f (state_after f s xs) ys)
-unfolding state_after unbuilt_in
-unbuilt-append f s [] ys = refl
-unbuilt-append f s (x ∷ xs) ys = by (f.unbuilt s x) (unbuilt-append f (f.next s x) xs ys) where
-  by : (o : Option ℕ) → unbuilt_in f (f.next s x) (xs ++ ys) ≡ earlier (unbuilt_in f (f.next s x) xs) (unbuilt_in f (state_after f (f.next s x) xs) ys)
-      → earlier o (unbuilt_in f (f.next s x) (xs ++ ys)) ≡ earlier (earlier o (unbuilt_in f (f.next s x) xs)) (unbuilt_in f (state_after f (f.next s x) xs) ys)
-  by None rest = rest
-  by (Some number) rest = refl
-
-says-append : (f : PageFunction) (s : f.State) (xs ys : List Heard) → says_of f s (xs ++ ys) ≡ says_of f s xs ++ said_by (unbuilt_in f s xs) (says_of f (state_after f s xs) ys)
-unfolding state_after unbuilt_in says_of
+says-append : (f : PageFunction) (s : f.State) (xs ys : List Heard) → says_of f s (xs ++ ys) ≡ says_of f s xs ++ says_of f (state_after f s xs) ys
+unfolding state_after says_of
 says-append f s [] ys = refl
-says-append f s (x ∷ xs) ys = by (f.unbuilt s x) (says-append f (f.next s x) xs ys) where
-  by : (o : Option ℕ) → says_of f (f.next s x) (xs ++ ys) ≡ says_of f (f.next s x) xs ++ said_by (unbuilt_in f (f.next s x) xs) (says_of f (state_after f (f.next s x) xs) ys)
-      → said_by o (f.says s x ++ says_of f (f.next s x) (xs ++ ys))
-      ≡ said_by o (f.says s x ++ says_of f (f.next s x) xs) ++ said_by (earlier o (unbuilt_in f (f.next s x) xs)) (says_of f (state_after f (f.next s x) xs) ys)
-  by None rest =
-      ap (λ l. f.says s x ++ l) rest
-      ∙ sym (append_assoc (f.says s x) (says_of f (f.next s x) xs) (said_by (unbuilt_in f (f.next s x) xs) (says_of f (state_after f (f.next s x) xs) ys)))
-  by (Some number) rest = refl
+says-append f s (x ∷ xs) ys =
+    ap (λ l. f.says s x ++ l) (says-append f (f.next s x) xs ys) ∙ sym (append_assoc (f.says s x) (says_of f (f.next s x) xs) (says_of f (state_after f (f.next s x) xs) ys))
 
 -- ---- pages of a stream
 
@@ -51,22 +35,13 @@ says-append f s (x ∷ xs) ys = by (f.unbuilt s x) (says-append f (f.next s x) x
 pub text : (f : PageFunction) → f.State → List Page → List Page → List ℕ
 text f start front more = says_of f (state_after f start (heard_after [] front)) (heard_after front more)
 
-pub said-more : (f : PageFunction) (start : f.State) (front more : List Page) → said f start (front ++ more) ≡ said f start front ++ said_by (unbuilt_on f start front) (text f start front more)
-unfolding said unbuilt_on text
+pub said-more : (f : PageFunction) (start : f.State) (front more : List Page) → said f start (front ++ more) ≡ said f start front ++ text f start front more
+unfolding said text
 said-more f start front more = ap (says_of f start) (heard-append [] front more) ∙ says-append f start (heard_after [] front) (heard_after front more)
-
-pub unbuilt-more : (f : PageFunction) (start : f.State) (front more : List Page)
-    → unbuilt_on f start (front ++ more) ≡ earlier (unbuilt_on f start front) (unbuilt_in f (state_after f start (heard_after [] front)) (heard_after front more))
-unfolding unbuilt_on
-unbuilt-more f start front more = ap (unbuilt_in f start) (heard-append [] front more) ∙ unbuilt-append f start (heard_after [] front) (heard_after front more)
 
 pub none-said : (f : PageFunction) (start : f.State) → said f start [] ≡ []
 unfolding said says_of heard_after
 none-said f start = refl
-
-pub none-unbuilt : (f : PageFunction) (start : f.State) → unbuilt_on f start [] ≡ None
-unfolding unbuilt_on unbuilt_in heard_after
-none-unbuilt f start = refl
 
 -- ---- one page more
 
@@ -81,41 +56,12 @@ state-one f start front p =
     ap (state_after f start) (heard-append [] front (p ∷ [])) ∙ state-append f start (heard_after [] front) (heard_after front (p ∷ []))
     ∙ ap (state_after f (state_after f start (heard_after [] front))) (heard-one front p)
 
--- what a page that is built adds
-pub built-one : (f : PageFunction) (start : f.State) (front : List Page) (p : Page) → unbuilt_on f start front ≡ None
-    → f.unbuilt (state_after f start (heard_after [] front)) (heard_at (front ++ p ∷ [])) ≡ None → unbuilt_on f start (front ++ p ∷ []) ≡ None
-unfolding unbuilt_in heard_after
-built-one f start front p sound built =
-    unbuilt-more f start front (p ∷ []) ∙ ap (λ o. earlier o (unbuilt_in f (state_after f start (heard_after [] front)) (heard_after front (p ∷ [])))) sound
-    ∙ ap (λ o. earlier o None) built
-
-pub said-one : (f : PageFunction) (start : f.State) (front : List Page) (p : Page) → unbuilt_on f start front ≡ None
-    → f.unbuilt (state_after f start (heard_after [] front)) (heard_at (front ++ p ∷ [])) ≡ None
+-- what a page adds
+pub said-one : (f : PageFunction) (start : f.State) (front : List Page) (p : Page)
     → said f start (front ++ p ∷ []) ≡ said f start front ++ f.says (state_after f start (heard_after [] front)) (heard_at (front ++ p ∷ []))
 unfolding says_of heard_after text
-said-one f start front p sound built =
-    let s = state_after f start (heard_after [] front) in
-    let h = heard_at (front ++ p ∷ []) in
-    said-more f start front (p ∷ []) ∙ ap (λ o. said f start front ++ said_by o (text f start front (p ∷ []))) sound
-    ∙ ap (λ o. said f start front ++ said_by o (f.says s h ++ [])) built ∙ ap (λ l. said f start front ++ l) (append-nil (f.says s h))
-
--- behind a page that is not built comes nothing
-pub unbuilt-next : (f : PageFunction) (start : f.State) (front rest : List Page) (p : Page) (number : ℕ) → unbuilt_on f start front ≡ None
-    → f.unbuilt (state_after f start (heard_after [] front)) (heard_at (front ++ p ∷ [])) ≡ Some number → unbuilt_on f start (front ++ p ∷ rest) ≡ Some number
-unfolding unbuilt_in heard_after
-unbuilt-next f start front rest p number sound is =
-    let s = state_after f start (heard_after [] front) in
-    unbuilt-more f start front (p ∷ rest) ∙ ap (λ o. earlier o (unbuilt_in f s (heard_after front (p ∷ rest)))) sound
-    ∙ ap (λ o. earlier o (unbuilt_in f (f.next s (heard_at (front ++ p ∷ []))) (heard_after (front ++ p ∷ []) rest))) is
-
-pub said-stops : (f : PageFunction) (start : f.State) (front rest : List Page) (p : Page) (number : ℕ) → unbuilt_on f start front ≡ None
-    → f.unbuilt (state_after f start (heard_after [] front)) (heard_at (front ++ p ∷ [])) ≡ Some number → said f start (front ++ p ∷ rest) ≡ said f start front
-unfolding says_of heard_after text
-said-stops f start front rest p number sound is =
-    let s = state_after f start (heard_after [] front) in
-    let h = heard_at (front ++ p ∷ []) in
-    said-more f start front (p ∷ rest) ∙ ap (λ o. said f start front ++ said_by o (text f start front (p ∷ rest))) sound
-    ∙ ap (λ o. said f start front ++ said_by o (f.says s h ++ says_of f (f.next s h) (heard_after (front ++ p ∷ []) rest))) is ∙ append-nil (said f start front)
+said-one f start front p =
+    said-more f start front (p ∷ []) ∙ ap (λ l. said f start front ++ l) (append-nil (f.says (state_after f start (heard_after [] front)) (heard_at (front ++ p ∷ []))))
 
 -- ---- behind a front
 
@@ -125,7 +71,7 @@ behind_tail whole front tail e = e ∙ ap (λ l. front ++ l) (sym (ap (drop (len
 -- what pages give is what the first of them give, and what they give behind these
 pub front-said : (f : PageFunction) (start : f.State) (front more pages : List Page) → pages ≡ front ++ more → said f start pages ≡ said f start front ++ said_behind f start front pages
 front-said f start front more pages e =
-    behind_tail (said f start pages) (said f start front) (said_by (unbuilt_on f start front) (text f start front more)) (ap (said f start) e ∙ said-more f start front more)
+    behind_tail (said f start pages) (said f start front) (text f start front more) (ap (said f start) e ∙ said-more f start front more)
 
 pub behind-is : (f : PageFunction) (start : f.State) (front pages : List Page) (more : List ℕ) → said f start pages ≡ said f start front ++ more → said_behind f start front pages ≡ more
 behind-is f start front pages more e = ap (drop (length (said f start front))) e ∙ drop-append_seam (said f start front) more
@@ -174,55 +120,26 @@ lasting_is (Some fault) f h = by (is_end_name fault.name) refl where
       let same : fault ≡ f = cc in
       (g, ap (λ (x : Fault). is_end_name x.name) (sym same) ∙ e)
 
-pub fault-is : (f : PageFunction) (start : f.State) (bytes : List ℕ) → fault_of f start bytes ≡ first_fault (unbuilt_fault (unbuilt_on f start (accepted bytes))) (stream_fault bytes)
-unfolding fault_of
-fault-is f start bytes = refl
-
--- a page that is not built, or a fault of the stream alone
+-- behind a fault of the stream that lasts
 pub record Lasts (f : PageFunction) (start : f.State) (bytes more : List ℕ) : Type 0 where
-  pub fault : fault_of f start (bytes ++ more) ≡ fault_of f start bytes
+  pub fault : fault_of (bytes ++ more) ≡ fault_of bytes
   pub text : running f start (bytes ++ more) ≡ running f start bytes
 
-lasts_by : (f : PageFunction) (start : f.State) (bytes more : List ℕ) (fault : Fault) (o : Option ℕ) → unbuilt_on f start (accepted bytes) ≡ o → lasting (first_fault (unbuilt_fault o) (stream_fault bytes)) ≡ Some fault
-    → Lasts f start bytes more
+pub lasts : (f : PageFunction) (start : f.State) (bytes more : List ℕ) (fault : Fault) → fault_now bytes ≡ Some fault → Lasts f start bytes more
 unfolding running
-lasts_by f start bytes more fault (Some number) is h =
-    let a = accepted_more bytes more in
-    let same : unbuilt_on f start (accepted (bytes ++ more)) ≡ Some number =
-    ap (unbuilt_on f start) a.1 ∙ unbuilt-more f start (accepted bytes) a.0
-    ∙ ap (λ o. earlier o (unbuilt_in f (state_after f start (heard_after [] (accepted bytes))) (heard_after (accepted bytes) a.0))) is in
-    record {
-      fault = fault-is f start (bytes ++ more) ∙ ap (λ o. first_fault (unbuilt_fault o) (stream_fault (bytes ++ more))) same
-          ∙ sym (fault-is f start bytes ∙ ap (λ o. first_fault (unbuilt_fault o) (stream_fault bytes)) is);
-      text = ap (said f start) a.1 ∙ said-more f start (accepted bytes) a.0
-          ∙ ap (λ o. said f start (accepted bytes) ++ said_by o (text f start (accepted bytes) a.0)) is ∙ append-nil (said f start (accepted bytes));
-    }
-lasts_by f start bytes more fault None is h =
-    let l = lasting_is (stream_fault bytes) fault h in
-    let s = stays bytes more fault l.0 l.1 in
-    let same : unbuilt_on f start (accepted (bytes ++ more)) ≡ None = ap (unbuilt_on f start) s.pages ∙ is in
-    record {
-      fault = fault-is f start (bytes ++ more) ∙ ap (λ o. first_fault (unbuilt_fault o) (stream_fault (bytes ++ more))) same ∙ s.fault_is
-          ∙ sym (fault-is f start bytes ∙ ap (λ o. first_fault (unbuilt_fault o) (stream_fault bytes)) is ∙ l.0);
-      text = ap (said f start) s.pages;
-    }
-
-pub lasts : (f : PageFunction) (start : f.State) (bytes more : List ℕ) (fault : Fault) → fault_now f start bytes ≡ Some fault → Lasts f start bytes more
 lasts f start bytes more fault h =
-    lasts_by f start bytes more fault (unbuilt_on f start (accepted bytes)) refl (ap lasting (sym (fault-is f start bytes)) ∙ h)
+    let l = lasting_is (fault_of bytes) fault h in
+    let s = stays bytes more fault l.0 l.1 in
+    record { fault = s.fault_is ∙ sym l.0; text = ap (said f start) s.pages }
 
-pub fault_stays : (f : PageFunction) (start : f.State) (bytes more : List ℕ) (fault : Fault) → fault_now f start bytes ≡ Some fault → fault_now f start (bytes ++ more) ≡ Some fault
-fault_stays f start bytes more fault h = ap lasting (lasts f start bytes more fault h).fault ∙ h
+pub fault_stays : (bytes more : List ℕ) (fault : Fault) → fault_now bytes ≡ Some fault → fault_now (bytes ++ more) ≡ Some fault
+fault_stays bytes more fault h =
+    let l = lasting_is (fault_of bytes) fault h in
+    let s = stays bytes more fault l.0 l.1 in
+    ap lasting (s.fault_is ∙ sym l.0) ∙ h
 
-pub added-none : (f : PageFunction) (start : f.State) (bytes more : List ℕ) (fault : Fault) → fault_now f start bytes ≡ Some fault → added_by f start bytes (bytes ++ more) ≡ []
+pub added-none : (f : PageFunction) (start : f.State) (bytes more : List ℕ) (fault : Fault) → fault_now bytes ≡ Some fault → added_by f start bytes (bytes ++ more) ≡ []
 unfolding added_by
 added-none f start bytes more fault h =
     let e : running f start (bytes ++ more) ≡ running f start bytes ++ [] = (lasts f start bytes more fault h).text ∙ sym (append-nil (running f start bytes)) in
     ap (drop (length (running f start bytes))) e ∙ drop-append_seam (running f start bytes) []
-
--- the fault where the stream has one of its end, or none, and all pages are built
-pub now_built : (f : PageFunction) (start : f.State) (bytes : List ℕ) → unbuilt_on f start (accepted bytes) ≡ None → fault_of f start bytes ≡ stream_fault bytes
-now_built f start bytes h = fault-is f start bytes ∙ ap (λ o. first_fault (unbuilt_fault o) (stream_fault bytes)) h
-
-pub now_unbuilt : (f : PageFunction) (start : f.State) (bytes : List ℕ) (number : ℕ) → unbuilt_on f start (accepted bytes) ≡ Some number → fault_now f start bytes ≡ unbuilt_fault (Some number)
-now_unbuilt f start bytes number h = ap lasting (fault-is f start bytes ∙ ap (λ o. first_fault (unbuilt_fault o) (stream_fault bytes)) h)

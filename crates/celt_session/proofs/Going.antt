@@ -17,12 +17,10 @@ use Rattle.opus_stream.specs.Readers.{Reader, StandsFor, IsAnswer, free_room}
 use Rattle.opus_stream.proofs.Prefixes.{accepted_more, pages_go_on}
 use Rattle.opus_stream.proofs.Reading.{need_short, no_byte}
 use Rattle.celt_session.specs.Pages.{Heard, heard_at, heard_after, IsGiven}
-use Rattle.celt_base.specs.declared.status.FaultName.TheVariants.{NotBuilt}
-use Rattle.opus_stream.specs.Audio.{fault_at}
-use Rattle.celt_session.specs.PageFunctions.{PageFunction, state_after, said, unbuilt_on, added_by, lasting, fault_now}
+use Rattle.celt_session.specs.PageFunctions.{PageFunction, state_after, added_by, lasting, fault_now}
 use Rattle.celt_session.specs.Works.{Works, Worked}
 use Rattle.celt_session.specs.Sessions.{Along, IsFed, said_behind, Gives, Feeds}
-use Rattle.celt_session.proofs.Folding.{said-one, built-one, unbuilt-next, said-stops, state-one, behind-is, behind-none, behind-twice, added-is, now_built, now_unbuilt, added-none, fault_stays}
+use Rattle.celt_session.proofs.Folding.{said-one, state-one, behind-is, behind-none, behind-twice, added-is, added-none, fault_stays}
 
 -- ---- what an answer says
 
@@ -144,26 +142,23 @@ before w start now = state_after w.function start (heard_after [] now)
 pub went_page : {W : Type 0} (w : Works W) (start : w.function.State) (bytes : List ℕ) (front : List Page) (reader next : Reader) (work done : W) (old mid new : Option (List ℕ)) (result : Unit {0})
     → Went w start bytes front reader work old mid → IsAnswer reader answers.Page
     → ((bytes : List ℕ) (given : ℕ) → StandsFor reader bytes given → StandsFor next bytes (given + 1))
-    → ((s : w.function.State) (heard : Heard) → w.Shows work s → IsGiven next heard → None ≡ w.function.unbuilt s heard)
     → ((s : w.function.State) (heard : Heard) → w.Shows work s → IsGiven next heard → Worked w s heard done mid new (Ok result))
     → Went w start bytes front next done old new
-went_page w start bytes front reader next work done old mid new result h answer longer built works =
+went_page w start bytes front reader next work done old mid new result h answer longer works =
     let now = front ++ h.more in
     let t = turn_of w start bytes now reader next work h.along answer longer in
     let p = t.page.page in
     let heard = heard_at (now ++ p ∷ []) in
-    let sound = sym (built (before w start now) heard h.along.shows t.given) in
     let worked = works (before w start now) heard h.along.shows t.given in
     let more = append_assoc front h.more (p ∷ []) in
     let along : Along w start next done bytes (now ++ p ∷ []) = record {
       given = t.page.given;
       reads = subst (StandsFor next bytes) (sym t.page.count) t.stands;
-      built = built-one w.function start now p h.along.built sound;
       shows = subst (w.Shows done) (sym (state-one w.function start now p)) worked.0;
     } in
     let text : said_behind w.function start front (now ++ p ∷ []) ≡ said_behind w.function start front now ++ w.function.says (before w start now) heard =
     behind-twice w.function start front now (now ++ p ∷ []) h.more (p ∷ []) refl refl
-    ∙ ap (λ l. said_behind w.function start front now ++ l) (behind-is w.function start now (now ++ p ∷ []) (w.function.says (before w start now) heard) (said-one w.function start now p h.along.built sound)) in
+    ∙ ap (λ l. said_behind w.function start front now ++ l) (behind-is w.function start now (now ++ p ∷ []) (w.function.says (before w start now) heard) (said-one w.function start now p)) in
     record {
       more = h.more ++ p ∷ [];
       along = subst (Along w start next done bytes) more along;
@@ -175,15 +170,13 @@ went_page w start bytes front reader next work done old mid new result h answer 
 pub went_failed : {W : Type 0} (w : Works W) (start : w.function.State) (bytes : List ℕ) (front : List Page) (reader next : Reader) (work done : W) (old mid new : Option (List ℕ)) (failure : Failed)
     → Went w start bytes front reader work old mid → IsAnswer reader answers.Page
     → ((bytes : List ℕ) (given : ℕ) → StandsFor reader bytes given → StandsFor next bytes (given + 1))
-    → ((s : w.function.State) (heard : Heard) → w.Shows work s → IsGiven next heard → None ≡ w.function.unbuilt s heard)
     → ((s : w.function.State) (heard : Heard) → w.Shows work s → IsGiven next heard → Worked w s heard done mid new (Err failure))
     → AppendsFront old new (said_behind w.function start front (accepted bytes))
-went_failed w start bytes front reader next work done old mid new failure h answer longer built works =
+went_failed w start bytes front reader next work done old mid new failure h answer longer works =
     let now = front ++ h.more in
     let t = turn_of w start bytes now reader next work h.along answer longer in
     let p = t.page.page in
     let heard = heard_at (now ++ p ∷ []) in
-    let sound = sym (built (before w start now) heard h.along.shows t.given) in
     let worked = works (before w start now) heard h.along.shows t.given in
     let says = w.function.says (before w start now) heard in
     let one = then_front old mid new (said_behind w.function start front now) says h.added worked in
@@ -191,24 +184,8 @@ went_failed w start bytes front reader next work done old mid new failure h answ
     behind-twice w.function start front (now ++ p ∷ []) (accepted bytes) (h.more ++ p ∷ []) t.page.rest (append_assoc front h.more (p ∷ [])) t.page.all
     ∙ ap (λ l. l ++ said_behind w.function start (now ++ p ∷ []) (accepted bytes))
     (behind-twice w.function start front now (now ++ p ∷ []) h.more (p ∷ []) refl refl
-    ∙ ap (λ l. said_behind w.function start front now ++ l) (behind-is w.function start now (now ++ p ∷ []) says (said-one w.function start now p h.along.built sound))) in
+    ∙ ap (λ l. said_behind w.function start front now ++ l) (behind-is w.function start now (now ++ p ∷ []) says (said-one w.function start now p))) in
     subst (AppendsFront old new) (sym text) (longer_front old new (said_behind w.function start front now ++ says) (said_behind w.function start (now ++ p ∷ []) (accepted bytes)) one)
-
--- where it is not built
-pub went_unbuilt : {W : Type 0} (w : Works W) (start : w.function.State) (bytes : List ℕ) (front : List Page) (reader next : Reader) (work : W) (old new : Option (List ℕ)) (number : ℕ)
-    → Went w start bytes front reader work old new → IsAnswer reader answers.Page
-    → ((bytes : List ℕ) (given : ℕ) → StandsFor reader bytes given → StandsFor next bytes (given + 1))
-    → ((s : w.function.State) (heard : Heard) → w.Shows work s → IsGiven next heard → Some number ≡ w.function.unbuilt s heard)
-    → Gives w start bytes front next work old new (Ok (Some (fault_at NotBuilt number)))
-went_unbuilt w start bytes front reader next work old new number h answer longer unbuilt =
-    let now = front ++ h.more in
-    let t = turn_of w start bytes now reader next work h.along answer longer in
-    let p = t.page.page in
-    let is = sym (unbuilt (before w start now) (heard_at (now ++ p ∷ [])) h.along.shows t.given) in
-    let all : accepted bytes ≡ now ++ p ∷ t.page.rest = t.page.all ∙ append_assoc now (p ∷ []) t.page.rest in
-    let first : unbuilt_on w.function start (accepted bytes) ≡ Some number = ap (unbuilt_on w.function start) all ∙ unbuilt-next w.function start now t.page.rest p number h.along.built is in
-    let text : said w.function start (accepted bytes) ≡ said w.function start now = ap (said w.function start) all ∙ said-stops w.function start now t.page.rest p number h.along.built is in
-    (now_unbuilt w.function start bytes number first, subst (λ l. Appends old new (drop (length (said w.function start front)) l)) (sym text) h.added)
 
 -- where no page is left
 pub went_need : {W : Type 0} (w : Works W) (start : w.function.State) (bytes : List ℕ) (front : List Page) (reader next : Reader) (work : W) (old new : Option (List ℕ))
@@ -219,9 +196,8 @@ went_need w start bytes front reader next work old new h answer longer =
     let now = front ++ h.more in
     let need = need_said bytes (length now) (answer bytes (length now) h.along.reads) in
     let e : now ≡ accepted bytes = all_given (accepted bytes) now h.along.given need.0 in
-    let along : Along w start next work bytes now = record { given = h.along.given; reads = longer bytes (length now) h.along.reads; built = h.along.built; shows = h.along.shows } in
-    let sound = ap lasting (now_built w.function start bytes (ap (unbuilt_on w.function start) (sym e) ∙ h.along.built)) ∙ need.1 in
-    (record { along = subst (Along w start next work bytes) e along; sound = sound }, subst (λ l. Appends old new (said_behind w.function start front l)) e h.added)
+    let along : Along w start next work bytes now = record { given = h.along.given; reads = longer bytes (length now) h.along.reads; shows = h.along.shows } in
+    (record { along = subst (Along w start next work bytes) e along; sound = need.1 }, subst (λ l. Appends old new (said_behind w.function start front l)) e h.added)
 
 pub went_fault : {W : Type 0} (w : Works W) (start : w.function.State) (bytes : List ℕ) (front : List Page) (reader next : Reader) (work : W) (old new : Option (List ℕ)) (fault : Fault)
     → Went w start bytes front reader work old new → IsAnswer reader (answers.Fault fault)
@@ -230,8 +206,7 @@ went_fault w start bytes front reader next work old new fault h answer =
     let now = front ++ h.more in
     let broken = fault_said bytes (length now) fault (answer bytes (length now) h.along.reads) in
     let e : now ≡ accepted bytes = all_given (accepted bytes) now h.along.given broken.0 in
-    let sound = ap lasting (now_built w.function start bytes (ap (unbuilt_on w.function start) (sym e) ∙ h.along.built)) ∙ broken.1 in
-    (sound, subst (λ l. Appends old new (said_behind w.function start front l)) e h.added)
+    (broken.1, subst (λ l. Appends old new (said_behind w.function start front l)) e h.added)
 
 -- ---- how far a piece was fed
 
@@ -252,7 +227,6 @@ along_more : {W : Type 0} (w : Works W) (start : w.function.State) (bytes part :
 along_more w start bytes part reader next work h longer = record {
   given = pages_go_on bytes part;
   reads = longer bytes (length (accepted bytes)) h.along.reads;
-  built = h.along.built;
   shows = h.along.shows;
 }
 
@@ -291,7 +265,7 @@ fed_done w start bytes taken rest piece part reader next work old new h split no
     let all : taken ≡ piece = sym (append-nil taken) ∙ ap (λ l. taken ++ l) (sym none) ∙ split in
     let same : now ++ part ≡ now = ap (λ l. now ++ l) no_part ∙ append-nil now in
     let reads : StandsFor next now (length (accepted now)) = subst (λ l. StandsFor next l (length (accepted now))) same (longer now (length (accepted now)) h.fed.along.reads) in
-    let along : Along w start next work now (accepted now) = record { given = h.fed.along.given; reads = reads; built = h.fed.along.built; shows = h.fed.along.shows } in
+    let along : Along w start next work now (accepted now) = record { given = h.fed.along.given; reads = reads; shows = h.fed.along.shows } in
     let fed : IsFed w start next work now = record { along = along; sound = h.fed.sound } in
     subst (λ l. IsFed w start next work (bytes ++ l) × Appends old new (added_by w.function start bytes (bytes ++ l))) all (fed, h.added)
 
@@ -314,12 +288,12 @@ fed_fault w start bytes taken part rest piece reader next last work done old mid
     let f = w.function in
     let now = bytes ++ taken in
     let g = subst (λ a. Gives w start (now ++ part) (accepted now) last done mid new (Ok a)) is (gives start (now ++ part) (accepted now) (along_more w start now part reader next work h.fed longer)) in
-    let broken : fault_now f start (bytes ++ (taken ++ part)) ≡ Some fault = ap (fault_now f start) (sym (append_assoc bytes taken part)) ∙ g.0 in
+    let broken : fault_now (bytes ++ (taken ++ part)) ≡ Some fault = ap (fault_now) (sym (append_assoc bytes taken part)) ∙ g.0 in
     let text : added_by f start bytes ((bytes ++ (taken ++ part)) ++ rest) ≡ added_by f start bytes now ++ said_behind f start (accepted now) (accepted (now ++ part)) =
     added_longer f start bytes (taken ++ part) rest ∙ ap (λ l. added_by f start bytes (bytes ++ (taken ++ part)) ++ l) (added-none f start (bytes ++ (taken ++ part)) rest fault broken)
     ∙ append-nil (added_by f start bytes (bytes ++ (taken ++ part))) ∙ added_twice f start bytes taken part in
-    subst (λ l. (fault_now f start l ≡ Some fault) × Appends old new (added_by f start bytes l)) (pieces bytes taken part rest piece split) (
-      fault_stays f start (bytes ++ (taken ++ part)) rest fault broken,
+    subst (λ l. (fault_now l ≡ Some fault) × Appends old new (added_by f start bytes l)) (pieces bytes taken part rest piece split) (
+      fault_stays (bytes ++ (taken ++ part)) rest fault broken,
       subst (Appends old new) (sym text) (Appends-trans old mid new (added_by f start bytes now) (said_behind f start (accepted now) (accepted (now ++ part))) h.added g.1),
     )
 

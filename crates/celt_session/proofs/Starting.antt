@@ -2,13 +2,13 @@
 use Rattle.std.proofs.Common.{◌≡◌, ℕ, List, [], ◌∷◌, ◌++◌, false, refl, sym, ◌∙◌, ap, subst, append-nil, append_assoc, None}
 use Rattle.std.specs.List.{concat}
 use Rattle.ogg_pages.specs.Stream.{Stream, no_page, stream}
-use Rattle.opus_stream.specs.Acceptance.{accepted_after, fault_after, accepted, fault_of as stream_fault, end_by, end_fault_of}
+use Rattle.opus_stream.specs.Acceptance.{accepted_after, fault_after, accepted, fault_of, end_fault_of}
 use Rattle.opus_stream.specs.Readers.{Reader, StandsFor as ReadsTo}
 use Rattle.celt_session.specs.Pages.{heard_after}
 use Rattle.celt_session.specs.PageFunctions.{PageFunction, state_after, said, running, added_by, added_in_pieces, fault_now, lasting, end_fault}
 use Rattle.celt_session.specs.Works.{Works}
 use Rattle.celt_session.specs.Sessions.{Along, IsFed, Held, StandsFor, StandsBy}
-use Rattle.celt_session.proofs.Folding.{none-unbuilt, now_built, none-said, running-is, running-front}
+use Rattle.celt_session.proofs.Folding.{none-said, running-is, running-front}
 
 nothing : stream [] ≡ no_page []
 unfolding stream Rattle.ogg_pages.specs.Stream.stream_in
@@ -18,28 +18,24 @@ pub no_pages : accepted [] ≡ []
 unfolding accepted accepted_after
 no_pages = ap (λ (s : Stream). accepted_after [] s.pages) nothing
 
-no_stream_fault : lasting (stream_fault []) ≡ None
-unfolding stream_fault fault_after
-no_stream_fault = ap (λ (s : Stream). lasting (fault_after [] s.pages s.ending)) nothing
-
-pub no_fault : (f : PageFunction) (start : f.State) → fault_now f start [] ≡ None
-no_fault f start =
-    ap lasting (now_built f start [] (ap (Rattle.celt_session.specs.PageFunctions.unbuilt_on f start) no_pages ∙ none-unbuilt f start)) ∙ no_stream_fault
+pub no_fault : fault_now [] ≡ None
+unfolding fault_of fault_after
+no_fault = ap (λ (s : Stream). lasting (fault_after [] s.pages s.ending)) nothing
 
 pub fed_nothing : {W : Type 0} (w : Works W) (start : w.function.State) (reader : Reader) (work : W) → ReadsTo reader [] 0 → w.Shows work start → IsFed w start reader work []
 unfolding state_after heard_after
 fed_nothing w start reader work reads shows = record {
-  along = subst (Along w start reader work []) (sym no_pages) (record { given = refl; reads = reads; built = none-unbuilt w.function start; shows = shows });
-  sound = no_fault w.function start;
+  along = subst (Along w start reader work []) (sym no_pages) (record { given = refl; reads = reads; shows = shows });
+  sound = no_fault;
 }
 
 pub going : {W : Type 0} (w : Works W) (start : w.function.State) (s : Held W) (bytes : List ℕ) → s.is_ended ≡ false → StandsFor w start s bytes → IsFed w start s.reader s.work bytes
 going w start s bytes is stands = subst (StandsBy w start s bytes) is stands
 
 -- the fault of its end is the stream's
-pub end_is : {W : Type 0} (w : Works W) (start : w.function.State) (reader : Reader) (work : W) (bytes : List ℕ) → IsFed w start reader work bytes → end_fault_of bytes ≡ end_fault w.function start bytes
+pub end_is : {W : Type 0} (w : Works W) (start : w.function.State) (reader : Reader) (work : W) (bytes : List ℕ) → IsFed w start reader work bytes → end_fault_of bytes ≡ end_fault bytes
 unfolding end_fault_of
-end_is w start reader work bytes f = ap end_by (sym (now_built w.function start bytes f.along.built))
+end_is w start reader work bytes f = refl
 
 -- ---- pieces
 

@@ -1,5 +1,5 @@
 -- One of two works.
-use Rattle.std.specs.Prelude.{ℕ, List, Option, ◌⊎◌}
+use Rattle.std.specs.Prelude.{ℕ, List, ◌⊎◌}
 use Rattle.std.proofs.Common.{inl, inr}
 use Rattle.celt_session.specs.declared.choice.Choice.{Choice}
 use Rattle.celt_session.specs.declared.choice.Choice.TheVariants.{First, Second}
@@ -8,10 +8,6 @@ use Rattle.celt_session.specs.PageFunctions.{PageFunction}
 use Rattle.celt_session.specs.Works.{Works}
 
 -- ---- ONE OF TWO FUNCTIONS OF A PAGE: its state is a state of the one or of the other
-
-abbrev pub unbuilt_by : (f g : PageFunction) → f.State ⊎ g.State → Heard → Option ℕ
-unbuilt_by f g (inl s) heard = f.unbuilt s heard
-unbuilt_by f g (inr s) heard = g.unbuilt s heard
 
 abbrev pub next_by : (f g : PageFunction) → f.State ⊎ g.State → Heard → f.State ⊎ g.State
 next_by f g (inl s) heard = inl (f.next s heard)
@@ -22,7 +18,7 @@ says_by f g (inl s) heard = f.says s heard
 says_by f g (inr s) heard = g.says s heard
 
 abbrev pub either_function : PageFunction → PageFunction → PageFunction
-either_function f g = record { State = f.State ⊎ g.State; unbuilt = unbuilt_by f g; next = next_by f g; says = says_by f g }
+either_function f g = record { State = f.State ⊎ g.State; next = next_by f g; says = says_by f g }
 
 -- ---- ONE OF TWO WORKS
 

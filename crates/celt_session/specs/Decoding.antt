@@ -14,10 +14,10 @@ use Rattle.celt_session.specs.Playing.{decoder_step}
 use Rattle.celt_session.specs.Outcomes.{Meaning, meaning}
 
 abbrev pub samples : PageFunction
-samples = samples_function (players_step decoder_step) (λ frames. true)
+samples = samples_function (players_step decoder_step)
 
 abbrev pub lines : PageFunction
-lines = lines_function range_of (λ frames. true)
+lines = lines_function range_of
 
 abbrev pub decoding_function : PageFunction
 decoding_function = either_function samples lines

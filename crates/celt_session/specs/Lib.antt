@@ -8,7 +8,6 @@ pub mod EncoderPairs
 pub mod EncoderWorks
 pub mod Encoding
 pub mod Encodings
-pub mod Forms
 pub mod FrameFunctions
 pub mod FrameSessions
 pub mod FrameWorks

@@ -5,7 +5,6 @@ use Rattle.celt_base.specs.declared.kind.Kind.{Kind}
 use Rattle.celt_session.specs.PageFunctions.{PageFunction}
 use Rattle.celt_session.specs.Frames.{Frame, is_concealed, page_frames}
 use Rattle.celt_session.specs.Texts.{hex_digits}
-use Rattle.celt_session.specs.Forms.{Built, unbuilt_at}
 
 -- the final range of a frame; one that is concealed has none, and 0 is written
 abbrev pub final_range : (Kind → List ℕ → ℕ) → Frame → ℕ
@@ -27,10 +26,9 @@ pub record Counted : Type 0 where
   pub frames : ℕ
 
 -- the lines of a page, where the final range of each frame that is not concealed is known
-abbrev pub lines_function : (Kind → List ℕ → ℕ) → Built → PageFunction
-lines_function range_of built = record {
+abbrev pub lines_function : (Kind → List ℕ → ℕ) → PageFunction
+lines_function range_of = record {
   State = Counted;
-  unbuilt = λ s page. unbuilt_at built s.pages page;
   next = λ s page. record { pages = s.pages + 1; frames = s.frames + length (page_frames page.packets) };
   says = λ s page. lines_from range_of s.frames (page_frames page.packets);
 }

@@ -7,8 +7,8 @@ use Rattle.celt_base.specs.declared.status.FaultName.TheVariants as names
 use Rattle.celt_base.specs.declared.status.Status.{Status}
 use Rattle.celt_base.specs.declared.status.Status.TheVariants as statuses
 use Rattle.celt_base.specs.Outside.{AppendsFront}
-use Rattle.opus_stream.specs.Acceptance.{is_end_name}
-use Rattle.celt_session.specs.PageFunctions.{PageFunction, running, full, fault_of}
+use Rattle.opus_stream.specs.Acceptance.{fault_of as stream_fault, is_end_name}
+use Rattle.celt_session.specs.PageFunctions.{PageFunction, running, full}
 
 -- What is made of a list of bytes: all of it, before its end is known, and its earliest fault. Some names say that the bytes end
 -- too early.
@@ -26,7 +26,7 @@ is_early_end names.DataTruncated = true
 is_early_end _ = false
 
 abbrev pub meaning : (f : PageFunction) → f.State → Meaning
-meaning f start = record { full = full f start; running = running f start; fault_of = fault_of f start; is_end = is_end_name }
+meaning f start = record { full = full f start; running = running f start; fault_of = stream_fault; is_end = is_end_name }
 
 -- the status of an input that ends within the limit, and of one that does not
 abbrev pub ended_status : Option Fault → Status

@@ -1,17 +1,13 @@
 -- What is made of the accepted pages of a list of bytes, one after the other, by a function of one page.
 use Rattle.std.specs.Prelude.{ℕ, List, [], ◌∷◌, ◌++◌, length, drop, Option, None, Some, if◌then◌else◌}
 use Rattle.celt_base.specs.declared.status.Fault.{Fault}
-use Rattle.celt_base.specs.declared.status.FaultName.TheVariants.{NotBuilt}
 use Rattle.ogg_pages.specs.Fields.{Page}
-use Rattle.opus_stream.specs.Acceptance.{accepted, fault_of as stream_fault, is_end_name, end_by}
-use Rattle.opus_stream.specs.Audio.{fault_at, first_fault}
+use Rattle.opus_stream.specs.Acceptance.{accepted, fault_of, is_end_name, end_by}
 use Rattle.celt_session.specs.Pages.{Heard, heard_after}
 
--- A function of a page: from the state and the page to the next state and the bytes that the page gives. Where the page is not of
--- the form that is built so far it gives nothing, and its number is told.
+-- A function of a page: from the state and the page to the next state and the bytes that the page gives.
 pub record PageFunction : Type 1 where
   pub State : Type 0
-  pub unbuilt : State → Heard → Option ℕ
   pub next : State → Heard → State
   pub says : State → Heard → List ℕ
 
@@ -22,32 +18,16 @@ unfoldable pub state_after : (f : PageFunction) → f.State → List Heard → f
 state_after f s [] = s
 state_after f s (page ∷ pages) = state_after f (f.next s page) pages
 
-abbrev pub said_by : Option ℕ → List ℕ → List ℕ
-said_by None text = text
-said_by (Some number) text = []
-
--- the bytes that they give, up to the first that is not built
+-- the bytes that they give
 unfoldable pub says_of : (f : PageFunction) → f.State → List Heard → List ℕ
 says_of f s [] = []
-says_of f s (page ∷ pages) = said_by (f.unbuilt s page) (f.says s page ++ says_of f (f.next s page) pages)
-
-abbrev pub earlier : Option ℕ → Option ℕ → Option ℕ
-earlier None later = later
-earlier (Some number) later = Some number
-
--- the number of that one
-unfoldable pub unbuilt_in : (f : PageFunction) → f.State → List Heard → Option ℕ
-unbuilt_in f s [] = None
-unbuilt_in f s (page ∷ pages) = earlier (f.unbuilt s page) (unbuilt_in f (f.next s page) pages)
+says_of f s (page ∷ pages) = f.says s page ++ says_of f (f.next s page) pages
 
 -- ---- A LIST OF BYTES
 
--- what the first pages of a stream give, and the first of them that is not built
+-- what the first pages of a stream give
 unfoldable pub said : (f : PageFunction) → f.State → List Page → List ℕ
 said f start pages = says_of f start (heard_after [] pages)
-
-unfoldable pub unbuilt_on : (f : PageFunction) → f.State → List Page → Option ℕ
-unbuilt_on f start pages = unbuilt_in f start (heard_after [] pages)
 
 -- what is written before the end of the bytes is known, and of all of them
 unfoldable pub running : (f : PageFunction) → f.State → List ℕ → List ℕ
@@ -60,24 +40,16 @@ full f start bytes = running f start bytes
 unfoldable pub added_by : (f : PageFunction) → f.State → List ℕ → List ℕ → List ℕ
 added_by f start bytes now = drop (length (running f start bytes)) (running f start now)
 
-abbrev pub unbuilt_fault : Option ℕ → Option Fault
-unbuilt_fault None = None
-unbuilt_fault (Some number) = Some (fault_at NotBuilt number)
-
--- the earliest fault: a page that is not built, or the stream's
-unfoldable pub fault_of : (f : PageFunction) → f.State → List ℕ → Option Fault
-fault_of f start bytes = first_fault (unbuilt_fault (unbuilt_on f start (accepted bytes))) (stream_fault bytes)
-
--- it, where more bytes do not mend it, and where they do
+-- the fault of a stream, where more bytes do not mend it, and where they do
 abbrev pub lasting : Option Fault → Option Fault
 lasting None = None
 lasting (Some fault) = if is_end_name fault.name then None else Some fault
 
-abbrev pub fault_now : (f : PageFunction) → f.State → List ℕ → Option Fault
-fault_now f start bytes = lasting (fault_of f start bytes)
+abbrev pub fault_now : List ℕ → Option Fault
+fault_now bytes = lasting (fault_of bytes)
 
-abbrev pub end_fault : (f : PageFunction) → f.State → List ℕ → Option Fault
-end_fault f start bytes = end_by (fault_of f start bytes)
+abbrev pub end_fault : List ℕ → Option Fault
+end_fault bytes = end_by (fault_of bytes)
 
 -- what is added of pieces that are fed one after the other, behind the bytes before
 unfoldable pub added_in_pieces : (f : PageFunction) → f.State → List ℕ → List (List ℕ) → List ℕ

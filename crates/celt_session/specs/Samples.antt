@@ -10,7 +10,6 @@ use Rattle.opus_stream.specs.declared.answers.Span.{Span}
 use Rattle.celt_session.specs.Pages.{Heard}
 use Rattle.celt_session.specs.PageFunctions.{PageFunction}
 use Rattle.celt_session.specs.Frames.{Frame, page_frames}
-use Rattle.celt_session.specs.Forms.{Built, unbuilt_at}
 
 -- What a stream is decoded into: so many channels, with this output gain, and whether phase inversion is taken.
 pub record Target : Type 0 where
@@ -74,10 +73,9 @@ target_of s page = record { channels = channels_in page.head; gain = gain_in pag
 abbrev pub opening : Bool → Heard → List ℕ
 opening awaits_header page = if awaits_header then header (channels_in page.head) else []
 
-abbrev pub samples_function : FrameStep → Built → PageFunction
-samples_function step built = record {
+abbrev pub samples_function : FrameStep → PageFunction
+samples_function step = record {
   State = Playing step;
-  unbuilt = λ s page. unbuilt_at built s.pages page;
   next = λ s page. record {
     pages = s.pages + 1;
     awaits_header = false;

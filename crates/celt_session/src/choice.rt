@@ -18,13 +18,6 @@ pub(crate) enum Choice<A, B> {
 impl<A: PageWork, B: PageWork> PageWork for Choice<A, B> {
     ghost work = { choice_work A.work B.work };
 
-    fn unbuilt(&self, reader: &StreamReader) -> Option<u64> {
-        match self {
-            Choice::First(first) => first.unbuilt(reader),
-            Choice::Second(second) => second.unbuilt(reader),
-        }
-    }
-
     fn page<R: Threads, K: Sink, G: Gate>(
         &mut self,
         rt: &R,

@@ -147,7 +147,7 @@ impl DecodeSession {
     /// The fault of a stream that ends with the bytes so far.
     pub fn end(&self) -> Option<Fault>
         requires going { is_ended self.now ≡ false }
-        ensures { (bytes : List ℕ) → StandsFor self.now bytes → result ≡ end_fault decoding_function (start_of self.now.settings) bytes }
+        ensures { (bytes : List ℕ) → StandsFor self.now bytes → result ≡ end_fault bytes }
     {
         self.session.end()
     }

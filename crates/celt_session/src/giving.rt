@@ -7,7 +7,7 @@ ghost use Rattle.celt_session.specs.Sessions.{Along, IsFed, Gives, Feeds};
 
 use crate::work::PageWork;
 use celt_base::outside::{Failed, Gate, Sink};
-use celt_base::status::{Fault, FaultName};
+use celt_base::status::Fault;
 use opus_stream::{Accept, StreamReader};
 use std::thread::Threads;
 
@@ -30,15 +30,6 @@ pub(crate) fn give_pages<W: PageWork, R: Threads, K: Sink, G: Gate>(
     'pages: loop {
         match reader.next_page() {
             Accept::Page => {
-                match work.unbuilt(reader) {
-                    Some(at) => {
-                        return Ok(Some(Fault {
-                            name: FaultName::NotBuilt,
-                            at,
-                        }));
-                    }
-                    None => {}
-                }
                 let Ok(()) = work.page(rt, reader, output, gate) else {
                     return Err(Failed);
                 };

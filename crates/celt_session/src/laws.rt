@@ -25,9 +25,9 @@ pub fn law_pieces()
 
 /// A fault that is not one of the end stays whatever bytes follow, and nothing is written any more.
 pub fn law_fault_stays()
-    ensures fault { (settings : DecodeSettings) (bytes more : List ℕ) (fault : Fault) → fault_now decoding_function (start_of settings) bytes ≡ Some fault
-        → fault_now decoding_function (start_of settings) (bytes ++ more) ≡ Some fault }
-    ensures running { (settings : DecodeSettings) (bytes more : List ℕ) (fault : Fault) → fault_now decoding_function (start_of settings) bytes ≡ Some fault
+    ensures fault { (settings : DecodeSettings) (bytes more : List ℕ) (fault : Fault) → fault_now bytes ≡ Some fault
+        → fault_now (bytes ++ more) ≡ Some fault }
+    ensures running { (settings : DecodeSettings) (bytes more : List ℕ) (fault : Fault) → fault_now bytes ≡ Some fault
         → running decoding_function (start_of settings) (bytes ++ more) ≡ running decoding_function (start_of settings) bytes }
 {}
 

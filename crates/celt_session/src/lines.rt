@@ -178,10 +178,6 @@ fn write_page<K: Sink>(
 impl PageWork for Lines {
     ghost work = { lines_work };
 
-    fn unbuilt(&self, _reader: &StreamReader) -> Option<u64> {
-        None
-    }
-
     fn page<R: Threads, K: Sink, G: Gate>(
         &mut self,
         _rt: &R,

@@ -91,10 +91,6 @@ impl PageWork for Samples {
 
     ghost work = { samples_work };
 
-    fn unbuilt(&self, _reader: &StreamReader) -> Option<u64> {
-        None
-    }
-
     fn page<R: Threads, K: Sink, G: Gate>(
         &mut self,
         _rt: &R,

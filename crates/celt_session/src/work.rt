@@ -13,11 +13,6 @@ pub(crate) trait PageWork {
     // What a page means.
     ghost work: { Works Self };
 
-    /// The number of the page that the reader gave last, where it is not of the form that is built.
-    fn unbuilt(&self, reader: &StreamReader) -> Option<u64>
-        ensures number { (s : work.function.State) (heard : Heard) → work.Shows self.now s → IsGiven reader.now heard →
-            result ≡ work.function.unbuilt s heard };
-
     /// Works on the page that the reader gave last, and adds its bytes to the output. Where that fails a
     /// front of them was added.
     fn page<R: Threads, K: Sink, G: Gate>(

@@ -1,6 +1,6 @@
 use Rattle.std.proofs.Common.{◌+◌, ◌<◌, ◌≤◌, refl, ◌∙◌, arith}
 use Rattle.opus_stream.specs.Readers.{bytes_held}
-use Rattle.celt_session.proofs.Going.{went_start, went_page, went_failed, went_unbuilt, went_need, went_fault}
+use Rattle.celt_session.proofs.Going.{went_start, went_page, went_failed, went_need, went_fault}
 use Rattle.celt_session.proofs.giving.give_pages.Goals as goal
 
 pub pages-init : goal.pages-init
@@ -24,7 +24,7 @@ pages-preserved g c =
     record {
       goes = λ start bytes front a. went_page g.W.PageWork.work start bytes front c.pages.reader c.next_page.new.self c.pages.work c.page.new.self
           (g.K.Sink.held c.args.output.now) (g.K.Sink.held c.pages.output) (g.K.Sink.held c.page.new.output) c.in-Ok.field-0
-          (i.goes start bytes front a) p.answer p.longer c.in-None.ensures.number c.in-Ok.ensures.works;
+          (i.goes start bytes front a) p.answer p.longer c.in-Ok.ensures.works;
       few = omega arith;
       fed = p.fed ∙ i.fed;
       kept = omega arith;
@@ -35,7 +35,7 @@ returns-in_default-clause-gives g c = λ start bytes front a.
     let p = c.in-Page.ensures in
     went_failed g.W.PageWork.work start bytes front c.pages.reader c.next_page.new.self c.pages.work c.page.new.self
     (g.K.Sink.held c.args.output.now) (g.K.Sink.held c.pages.output) (g.K.Sink.held c.page.new.output) c.in_default.field-0
-    (c.pages.invariant.goes start bytes front a) p.answer p.longer c.in-None.ensures.number c.in_default.ensures.works
+    (c.pages.invariant.goes start bytes front a) p.answer p.longer c.in_default.ensures.works
 
 pub returns-in-Need-clause-gives : goal.returns-in-Need-clause-gives
 returns-in-Need-clause-gives g c = λ start bytes front a.
@@ -47,9 +47,3 @@ pub returns-in-Fault-clause-gives : goal.returns-in-Fault-clause-gives
 returns-in-Fault-clause-gives g c = λ start bytes front a.
     went_fault g.W.PageWork.work start bytes front c.pages.reader c.next_page.new.self c.pages.work (g.K.Sink.held c.args.output.now) (g.K.Sink.held c.pages.output) c.in-Fault.fault
     (c.pages.invariant.goes start bytes front a) c.in-Fault.ensures.answer
-
-pub returns-in-Some-clause-gives : goal.returns-in-Some-clause-gives
-returns-in-Some-clause-gives g c = λ start bytes front a.
-    let p = c.in-Page.ensures in
-    went_unbuilt g.W.PageWork.work start bytes front c.pages.reader c.next_page.new.self c.pages.work (g.K.Sink.held c.args.output.now) (g.K.Sink.held c.pages.output) c.in-Some.at
-    (c.pages.invariant.goes start bytes front a) p.answer p.longer c.in-Some.ensures.number
