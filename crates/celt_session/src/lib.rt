@@ -55,3 +55,6 @@ pub use fed::Fed;
 pub use given_laws::{law_given_goes_on, law_given_packets};
 pub use laws::{law_failed_write, law_fault_stays, law_pieces, law_running_goes_on};
 pub use settings::{DecodeSettings, Form, Settings};
+
+#[cfg(test)]
+mod tests;
