@@ -9,5 +9,5 @@ pub mod OptionWalks
 pub mod PutPairs
 pub mod SpellingLemmas
 pub mod Tallying
-pub mod Unbuilt
 pub mod Windowing
+pub mod Generated

@@ -1,15 +1,14 @@
 -- What a run says on the notes.
-use Rattle.std.specs.Prelude.{◌⊎◌, ◌==◌, if◌then◌else◌, ℕ, Bool, true, false, List, [], Option, Some, IfSome, ⊤}
+use Rattle.std.specs.Prelude.{◌⊎◌, ℕ, Bool, true, false, List, [], Option, Some, IfSome, ⊤}
 use Rattle.std.specs.Io.KnownBytes.{Appends, Keeps}
 use Rattle.celt_base.specs.declared.status.Status.{Status}
 use Rattle.celt_base.specs.declared.status.Status.TheVariants as statuses
 use Rattle.celt_base.specs.Outside.{Rose, AppendsFront}
-use Rattle.celt_base.specs.declared.status.Fault.{Fault}
-use Rattle.celt_base.specs.declared.status.FaultName.TheVariants as names
 use Rattle.celt_session.specs.declared.settings.Settings.{Settings}
 use Rattle.celt_session.specs.Outcomes.{Meaning, Writes, WritesFront}
 use Rattle.celt_session.specs.Decoding.{decoding}
-use Rattle.celt_session.specs.Encoding.{encoding}
+use Rattle.celt_session.specs.EncodedFrames.{encoded_frames}
+use Rattle.celt_session.specs.Encodings.{encoding_by}
 use Rattle.celt_cli.specs.declared.words.Command.{Command}
 use Rattle.celt_cli.specs.declared.words.Command.TheVariants.{Decode, Encode, Gen}
 use Rattle.celt_cli.specs.declared.notes.Place.{Place}
@@ -54,16 +53,9 @@ EitherRose output_old output_new notes_old notes_new = Rose output_old output_ne
 
 -- ---- WHAT A COMMAND MAKES OF ITS INPUT
 
--- the fault of a form that is not built: at the beginning, whatever the input
-abbrev pub not_built : Fault
-not_built = record { name = names.NotBuilt; at = 0 }
-
-abbrev pub unbuilt_meaning : Meaning
-unbuilt_meaning = record { full = λ bytes. []; running = λ bytes. []; fault_of = λ bytes. Some not_built; is_end = λ name. false }
-
--- packets of more than one frame are not built
+-- a file is encoded by the frames of the encoder
 abbrev pub encoding_for : Settings → Meaning
-encoding_for settings = if settings.group == 1 then encoding settings else unbuilt_meaning
+encoding_for settings = encoding_by encoded_frames settings
 
 abbrev pub meaning_of : Command → Meaning
 meaning_of (Decode settings) = decoding settings

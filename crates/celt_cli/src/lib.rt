@@ -24,6 +24,8 @@ pub mod pairs;
 pub mod program;
 pub mod report;
 pub mod silent_maker;
+#[cfg(test)]
+mod sounding_tests;
 pub mod tally;
 #[cfg(test)]
 mod tests;

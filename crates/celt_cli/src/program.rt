@@ -1,11 +1,11 @@
 //! The program over a source and two sinks.
 ghost use Rattle.std.specs.Prelude.{◌≡◌, ◌≢◌, ◌^◌, ◌≤◌, false, IfSome, None, Some};
 ghost use Rattle.celt_base.specs.Outside.{Rose};
-ghost use Rattle.celt_session.specs.Outcomes.{wanted, Answers, WritesFront};
+ghost use Rattle.celt_session.specs.Outcomes.{wanted, Answers};
 ghost use Rattle.celt_cli.specs.EncodingMakers.{encoding_makers};
 ghost use Rattle.celt_cli.specs.GenLines.{AddsLine, gen_line};
-ghost use Rattle.celt_cli.specs.Runs.{AnswersUsage, EitherRose, Says, IfReads, Wrote, encoding_for, meaning_of, not_built, reads, unbuilt_of};
-ghost use Rattle.celt_cli.specs.Words.{IsAllowed, IsCommand, command_of};
+ghost use Rattle.celt_cli.specs.Runs.{AnswersUsage, EitherRose, Says, IfReads, Wrote, meaning_of, reads, unbuilt_of};
+ghost use Rattle.celt_cli.specs.Words.{IsCommand, command_of};
 
 use crate::encoding_maker::EncodingMaker;
 use crate::generating::write_generated;
@@ -13,8 +13,8 @@ use crate::generator::GenSettings;
 use crate::notes::{MOST_LINE, Place, put_refusal};
 use crate::words::{Command, command_in};
 use celt_base::outside::{Gate, Sink, Source};
-use celt_base::status::{Fault, FaultName, Status};
-use celt_session::{Settings, decode_stream, encode_stream};
+use celt_base::status::{Fault, Status};
+use celt_session::{decode_stream, encode_stream};
 use std::alloc::Global;
 use std::thread::Threads;
 
@@ -62,40 +62,6 @@ fn unbuilt(command: Command) -> Place
     }
 }
 
-/// The answer of a form that is not built.
-fn refuse_unbuilt() -> Status
-    ensures { result ≡ Status.Refused not_built }
-{
-    Status::Refused(Fault {
-        name: FaultName::NotBuilt,
-        at: 0,
-    })
-}
-
-/// Encodes the input. Packets of more than one frame are not built.
-fn run_encode<R: Threads, S: Source, K: Sink, G: Gate>(
-    rt: &R,
-    alloc: Global,
-    settings: Settings,
-    input: &mut S,
-    output: &mut K,
-    gate: &G,
-) -> Status
-    requires { IsAllowed settings }
-    ensures status { IfSome (S.left input.old) (λ bytes. Answers (wanted (encoding_for settings) (2 ^ 40) bytes) result) }
-    ensures output { IfSome (S.left input.old) (λ bytes. WritesFront (encoding_for settings) (2 ^ 40) bytes (K.held output.old) (K.held output.new) result) }
-    ensures memory { result ≡ Status.NoMemory → output.new ≡ output.old }
-    ensures read_fault { result ≡ Status.ReadFault → Rose (S.faults input.old) (S.faults input.new) }
-    ensures write_fault { result ≡ Status.WriteFault → Rose (K.faults output.old) (K.faults output.new) }
-    ensures words { result ≢ Status.Usage }
-    ensures kept { K.faults output.old ≤ K.faults output.new }
-{
-    if settings.group != 1 {
-        return refuse_unbuilt();
-    }
-    encode_stream(rt, alloc, settings, LIMIT, input, output, gate)
-}
-
 /// Encodes and decodes samples of a seed, and writes what came out in one line.
 fn run_gen<K: Sink>(alloc: Global, settings: GenSettings, output: &mut K) -> Status
     requires { settings.frames ≤ 10000 }
@@ -136,7 +102,9 @@ fn run_command<R: Threads, S: Source, K: Sink, G: Gate>(
         Command::Decode(settings) => {
             decode_stream(rt, alloc, settings, LIMIT, input, output, gate)
         }
-        Command::Encode(settings) => run_encode(rt, alloc, settings, input, output, gate),
+        Command::Encode(settings) => {
+            encode_stream(rt, alloc, settings, LIMIT, input, output, gate)
+        }
         Command::Gen(settings) => run_gen(alloc, settings, output),
     }
 }

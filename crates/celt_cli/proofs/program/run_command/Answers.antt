@@ -1,4 +1,4 @@
-use Rattle.celt_cli.proofs.Unbuilt.{gen_answers, gen_wrote}
+use Rattle.celt_cli.proofs.Generated.{gen_answers, gen_wrote}
 use Rattle.celt_cli.proofs.program.run_command.Goals as goal
 
 pub returns-in-Gen-clause-status : goal.returns-in-Gen-clause-status
