@@ -47,7 +47,6 @@ mod wave;
 mod work;
 
 pub use decoding::{DecodeSession, decode_stream};
-pub use encode::encode_stream;
 pub use encode_session::EncodeSession;
 pub use encoding_laws::{law_frames, law_silent_frame, law_stream_goes_on, law_wave_fault_stays};
 pub use ended::Ended;
@@ -55,6 +54,7 @@ pub use fed::Fed;
 pub use given_laws::{law_given_goes_on, law_given_packets};
 pub use laws::{law_failed_write, law_fault_stays, law_pieces, law_running_goes_on};
 pub use settings::{DecodeSettings, Form, Settings};
+pub use streaming::encode_stream;
 
 #[cfg(test)]
 mod tests;

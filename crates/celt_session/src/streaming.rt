@@ -122,7 +122,7 @@ fn encode_all<R: Threads, S: Source, K: Sink, G: Gate>(
 
 /// Encodes the WAV file of the input into an Ogg stream on the output. At most `limit` bytes are read as the file,
 /// and whether there is one more is found out. All memory is taken before the first write.
-pub(crate) fn encode_file<R: Threads, S: Source, K: Sink, G: Gate>(
+pub fn encode_stream<R: Threads, S: Source, K: Sink, G: Gate>(
     rt: &R,
     alloc: Global,
     settings: Settings,

@@ -3,7 +3,7 @@ use Rattle.std.specs.Prelude.{IfSome}
 use Rattle.celt_session.specs.EncodedFrames.{encoded_frames}
 use Rattle.celt_session.specs.Encodings.{encoding_by}
 use Rattle.celt_session.specs.Outcomes.{wanted, Answers, WritesFront}
-use Rattle.celt_session.proofs.streaming.encode_file.Goals as goal
+use Rattle.celt_session.proofs.streaming.encode_stream.Goals as goal
 
 pub returns-clause-status : goal.returns-clause-status
 returns-clause-status g c =
