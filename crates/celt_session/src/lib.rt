@@ -41,6 +41,8 @@ mod samples;
 mod session;
 mod settings;
 mod stream;
+#[cfg(test)]
+mod stream_tests;
 mod streaming;
 pub mod text;
 mod wave;
