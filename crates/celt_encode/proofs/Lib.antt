@@ -7,6 +7,7 @@ pub mod ListeningLemmas
 pub mod MixSteps
 pub mod NearestSteps
 pub mod NumberSteps
+pub mod RoomLemmas
 pub mod SpreadLemmas
 pub mod UnitLemmas
 pub mod VectorSteps

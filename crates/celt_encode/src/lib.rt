@@ -8,6 +8,7 @@ mod choice;
 mod encoder;
 mod energies;
 mod frame;
+mod guard_laws;
 mod laws;
 mod leaves;
 mod listening;
@@ -26,5 +27,6 @@ mod vectors;
 mod writing;
 
 pub use encoder::Encoder;
+pub use guard_laws::law_room;
 pub use laws::{law_choice, law_code, law_kept, law_nearest};
 pub use listening_laws::{law_listening, law_unit_vectors};
