@@ -111,6 +111,4 @@ pub enum FaultName {
     TextOverrun,
     /// A text of symbols ends inside a line or inside a frame (line).
     TextTruncated,
-    /// The input is of a form that is not built yet (page or byte).
-    NotBuilt,
 }

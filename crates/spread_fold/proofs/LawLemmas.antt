@@ -6,37 +6,9 @@ use Rattle.std.proofs.lemmas.Bool.{le-leb, le-ltb, lt-ltb, leb-true, leb-false, 
 use Rattle.std.proofs.lemmas.Grind.{pow_more}
 use Rattle.std.proofs.Math.Nat.{add-mul-div_left, pow-suc}
 use Rattle.spread_fold.specs.Masks.{has_pulse, block_bits, mask}
-use Rattle.spread_fold.specs.Spreading.{first_from, is_far, distance}
-
-first_case : (passes : ℕ → Bool) (m t k : ℕ) (b : Bool) → passes t ≡ b → t ≤ k → k < t + suc m → passes k ≡ true → (suc t ≤ k → passes (first_from passes m (suc t)) ≡ true) → passes (if b then t else first_from passes m (suc t)) ≡ true
-first_case passes m t k true e h l p r = e
-first_case passes m t k false e h l p r = elim (cases_eq t k) [
-  | inl s ↦ absurd (both_ways (passes t) e (subst (λ i. passes i ≡ true) (sym s) p))
-  | inr n ↦ r (above t k h n)
-]
-  where
-    above : (t k : ℕ) → t ≤ k → (t ≡ k → ⊥) → suc t ≤ k
-    above t k h n = omega arith
-
-pub first_passes : (passes : ℕ → Bool) (m t k : ℕ) → t ≤ k → k < t + m → passes k ≡ true → passes (first_from passes m t) ≡ true
-unfolding first_from
-first_passes passes zero t k h l p = absurd (omega arith)
-first_passes passes (suc m) t k h l p = first_case passes m t k (passes t) refl h l p (λ g. first_passes passes m (suc t) k g (omega arith) p)
-
-least_case : (passes : ℕ → Bool) (m t u : ℕ) (b : Bool) → passes t ≡ b → t ≤ u → u < (if b then t else first_from passes m (suc t)) → (suc t ≤ u → u < first_from passes m (suc t) → passes u ≡ false) → passes u ≡ false
-least_case passes m t u true e h l r = absurd (omega arith)
-least_case passes m t u false e h l r = elim (cases_eq t u) [
-  | inl s ↦ subst (λ i. passes i ≡ false) s e
-  | inr n ↦ r (above t u h n) l
-]
-  where
-    above : (t k : ℕ) → t ≤ k → (t ≡ k → ⊥) → suc t ≤ k
-    above t k h n = omega arith
-
-pub first_least : (passes : ℕ → Bool) (m t u : ℕ) → t ≤ u → u < first_from passes m t → passes u ≡ false
-unfolding first_from
-first_least passes zero t u h l = absurd (omega arith)
-first_least passes (suc m) t u h l = least_case passes m t u (passes t) refl h l (λ g k. first_least passes m (suc t) u g k)
+use Rattle.fixed_math.specs.Search.{first_from}
+use Rattle.fixed_math.proofs.SearchLemmas.{first_passes, first_least}
+use Rattle.spread_fold.specs.Spreading.{is_far, distance}
 
 distance_is : (n blocks : ℕ) → 8 * blocks ≤ n → distance n blocks ≡ first_from (is_far n blocks) 176 1
 unfolding distance

@@ -10,7 +10,8 @@ use Rattle.std.proofs.Math.Nat.{div-add-mod}
 use Rattle.std.proofs.lemmas.Bool.{lt-ltb, le-ltb, le-leb, lt-leb, ne_eqb}
 use Rattle.fixed_math.specs.Circle.{cosine, sine}
 use Rattle.fixed_math.specs.Items.{item}
-use Rattle.spread_fold.specs.Spreading.{clamped, turned_first, turned_second, pair_turned, turned_up, turned_down, turned, turned_far, spread_run, spread_runs, first_from, is_far, distance, spread_angle, spread_by}
+use Rattle.fixed_math.specs.Search.{first_from}
+use Rattle.spread_fold.specs.Spreading.{clamped, turned_first, turned_second, pair_turned, turned_up, turned_down, turned, turned_far, spread_run, spread_runs, is_far, distance, spread_angle, spread_by}
 
 pub clamped_size : (z : ℤ) → unsigned_abs (clamped z) ≤ 2 ^ 17
 unfolding clamped

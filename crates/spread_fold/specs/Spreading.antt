@@ -4,6 +4,7 @@ use Rattle.std.specs.Int.{int_max, int_min}
 use Rattle.fixed_math.specs.Circle.{cosine, sine}
 use Rattle.fixed_math.specs.Rounding.{rounded}
 use Rattle.fixed_math.specs.Items.{item}
+use Rattle.fixed_math.specs.Search.{first_from}
 
 -- at most 2^17 in size
 unfoldable pub clamped : ℤ → ℤ
@@ -49,11 +50,6 @@ spread_run forward t c s xs =
 unfoldable pub spread_runs : Bool → ℕ → ℤ → ℤ → ℕ → ℕ → List ℤ → List ℤ
 spread_runs forward t c s n zero xs = []
 spread_runs forward t c s n (suc b) xs = spread_runs forward t c s n b xs ++ spread_run forward t c s (take n (drop (b * n) xs))
-
--- the first of m numbers from t on that passes, or t + m
-unfoldable pub first_from : (ℕ → Bool) → ℕ → ℕ → ℕ
-first_from passes zero t = t
-first_from passes (suc m) t = if passes t then t else first_from passes m (suc t)
 
 -- the distance of far pairs among n items, at most 176, in blocks: 0 for short blocks, else the least from 1 on with (t^2 + t) blocks + blocks / 4 at least n
 abbrev pub is_far : ℕ → ℕ → ℕ → Bool

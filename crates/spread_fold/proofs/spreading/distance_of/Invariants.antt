@@ -1,5 +1,6 @@
 use Rattle.std.proofs.Common.{◌≡◌, ◌≤◌, ◌-◌}
-use Rattle.spread_fold.specs.Spreading.{first_from, is_far}
+use Rattle.fixed_math.specs.Search.{first_from}
+use Rattle.spread_fold.specs.Spreading.{is_far}
 use Rattle.spread_fold.proofs.spreading.distance_of.Given as goal
 
 -- none of the numbers before passes
