@@ -12,3 +12,4 @@ pub mod Recorders
 pub mod Readings
 pub mod HeldSymbols
 pub mod Batches
+pub mod Validity
