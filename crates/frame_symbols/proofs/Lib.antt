@@ -10,3 +10,8 @@ pub mod ReadingSteps
 pub mod WritingSteps
 pub mod CountSteps
 pub mod BatchSteps
+pub mod ValiditySteps
+pub mod ValidityParts
+pub mod ValidityBands
+pub mod ValidityShares
+pub mod ValidityFrames

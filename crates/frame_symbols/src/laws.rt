@@ -8,11 +8,20 @@ ghost use Rattle.celt_base.specs.Questions.{Answered};
 ghost use Rattle.celt_base.specs.WalkOrders.{AtMost, InOrder, outcome};
 ghost use Rattle.frame_symbols.specs.Frames.{frame_script, first_pace};
 ghost use Rattle.frame_symbols.specs.Readings.{IsReading, reading_of};
+ghost use Rattle.frame_symbols.specs.Validity.{AllValid};
+ghost use Rattle.range_coder.specs.Codes.{AreAnswers, FitTypes};
 
 /// However it is answered, a frame asks at most 3100 questions, and so does every list in order.
 pub fn law_frame_questions()
     ensures most { (kind : Kind) (len : ℕ) → AtMost 3100 (frame_script kind len) }
     ensures list { (kind : Kind) (len : ℕ) (list : List Answered) → InOrder (frame_script kind len) first_pace list → length list ≤ 3100 }
+{}
+
+/// Each question of a frame is valid and fits its type, whatever was answered before it; and so is each question of every list
+/// in order, and its answer is one of its answers.
+pub fn law_valid_questions()
+    ensures script { (kind : Kind) (len : ℕ) → AllValid (frame_script kind len) }
+    ensures list { (kind : Kind) (len : ℕ) (list : List Answered) → InOrder (frame_script kind len) first_pace list → AreAnswers list × FitTypes list }
 {}
 
 /// A frame has one reading at most.
