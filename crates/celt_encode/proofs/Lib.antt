@@ -7,6 +7,10 @@ pub mod ListeningLemmas
 pub mod MixSteps
 pub mod NearestSteps
 pub mod NumberSteps
+pub mod PlaceBands
+pub mod PlaceFrames
+pub mod PlaceRules
+pub mod PlaceSteps
 pub mod RoomLemmas
 pub mod SpreadLemmas
 pub mod UnitLemmas

@@ -9,6 +9,7 @@ pub mod Known
 pub mod Leaves
 pub mod Listening
 pub mod Outsets
+pub mod Places
 pub mod Rooms
 pub mod Spreads
 pub mod Standing
