@@ -9,8 +9,15 @@ pub mod NearestSteps
 pub mod NumberSteps
 pub mod PlaceBands
 pub mod PlaceFrames
+pub mod PlaceKnown
+pub mod PlaceOpenings
+pub mod PlaceOutsets
+pub mod PlaceProper
 pub mod PlaceRules
+pub mod PlaceSettings
+pub mod PlaceShares
 pub mod PlaceSteps
+pub mod PlaceVectors
 pub mod RoomLemmas
 pub mod SpreadLemmas
 pub mod UnitLemmas

@@ -5,25 +5,30 @@ use Rattle.celt_base.specs.declared.coder.Place.{Place}
 use Rattle.celt_base.specs.declared.kind.Kind.{Kind}
 use Rattle.celt_base.specs.declared.question.Question.{Question}
 use Rattle.celt_base.specs.Paces.{Pace, tell_of, tell_frac_of}
-use Rattle.celt_base.specs.WalkCalls.{meant}
+use Rattle.celt_base.specs.declared.question.Question.TheVariants.{Bit}
+use Rattle.celt_base.specs.Questions.{IsAnswer}
+use Rattle.celt_base.specs.WalkCalls.{heard, meant}
 use Rattle.celt_base.specs.WalkOrders.{MayGive}
 use Rattle.celt_base.specs.WalkScripts.{Script, Done, Look, Ask, Begin, and_then, each, row_of, table, asks_at, asks_value_at, asks_bit, asks_number, bit_within}
 use Rattle.celt_base.specs.Walks.{Asked}
 use Rattle.frame_symbols.specs.Askings.{number_within, number_within_eighths}
 use Rattle.range_coder.specs.Nearest.{IsNearest}
 use Rattle.celt_encode.specs.Outsets.{Outset}
-use Rattle.celt_encode.specs.Places.{IsPlace, IsEntered, AllPlaces}
+use Rattle.celt_encode.specs.Places.{IsKnown, IsPlace, IsTold, IsEntered, AllPlaces}
 use Rattle.celt_encode.specs.Standing.{Standing, entered_in, noted}
 use Rattle.celt_encode.specs.Wanted.{wanted}
+use Rattle.celt_encode.proofs.PlaceKnown.{told_known}
 
 -- Each place is one that the frame has, and at the end this holds of what stands there and of the value.
 abbrev pub Goes : {A : Type 0} → Kind → (Standing → A → Type 0) → Standing → Script A → Type 0
 Goes kind holds s (Done value) = holds s value
 Goes kind holds s (Look look) = (pace : Pace) → Goes kind holds s (look pace)
-Goes kind holds s (Begin at script) = IsEntered kind s at × Goes kind holds (entered_in s at) script
+Goes kind holds s (Begin at script) = IsKnown s.answers × IsEntered kind s at × Goes kind holds (entered_in s at) script
 Goes kind holds s (Ask at question follow) =
-    IsPlace kind s at
-    × ((answer : ℤ) → IsNearest question (meant at question (wanted s at)) answer → Goes kind holds (noted s (Asked at question answer)) (follow answer))
+    IsKnown s.answers
+    × IsPlace kind s at
+    × ((answer : ℤ) → IsNearest question (meant at question (wanted s at)) answer
+    → IsTold at (heard at question answer) × Goes kind holds (noted s (Asked at question answer)) (follow answer))
 
 pub goes_then : {A B : Type 0} (kind : Kind) (holds : Standing → A → Type 0) (later : Standing → B → Type 0) (script : Script A) (next : A → Script B) (s : Standing)
     → Goes kind holds s script
@@ -31,11 +36,15 @@ pub goes_then : {A B : Type 0} (kind : Kind) (holds : Standing → A → Type 0)
     → Goes kind later s (and_then script next)
 goes_then kind holds later (Done value) next s g h = h s value g refl
 goes_then kind holds later (Look look) next s g h = λ pace. goes_then kind holds later (look pace) next s (g pace) (λ t value i m. h t value i (pace, m))
-goes_then kind holds later (Begin at script) next s g h = (g.0, goes_then kind holds later script next (entered_in s at) g.1 h)
+goes_then kind holds later (Begin at script) next s g h = (g.0, g.1, goes_then kind holds later script next (entered_in s at) g.2 h)
 goes_then kind holds later (Ask at question follow) next s g h = (
   g.0,
-  λ answer near. goes_then kind holds later (follow answer) next (noted s (Asked at question answer)) (g.1 answer near)
-      (λ t value i m. h t value i (answer, near.is_answer, m)),
+  g.1,
+  λ answer near. (
+    (g.2 answer near).0,
+    goes_then kind holds later (follow answer) next (noted s (Asked at question answer))
+        (g.2 answer near).1 (λ t value i m. h t value i (answer, near.is_answer, m)),
+  ),
 )
 
 pub goes_weaker : {A : Type 0} (kind : Kind) (holds later : Standing → A → Type 0) (script : Script A) (s : Standing)
@@ -44,36 +53,39 @@ pub goes_weaker : {A : Type 0} (kind : Kind) (holds later : Standing → A → T
     → Goes kind later s script
 goes_weaker kind holds later (Done value) s w g = w s value g
 goes_weaker kind holds later (Look look) s w g = λ pace. goes_weaker kind holds later (look pace) s w (g pace)
-goes_weaker kind holds later (Begin at script) s w g = (g.0, goes_weaker kind holds later script (entered_in s at) w g.1)
-goes_weaker kind holds later (Ask at question follow) s w g = (g.0, λ answer near. goes_weaker kind holds later (follow answer) (noted s (Asked at question answer)) w (g.1 answer near))
+goes_weaker kind holds later (Begin at script) s w g = (g.0, g.1, goes_weaker kind holds later script (entered_in s at) w g.2)
+goes_weaker kind holds later (Ask at question follow) s w g = (g.0, g.1, λ answer near. ((g.2 answer near).0, goes_weaker kind holds later (follow answer) (noted s (Asked at question answer)) w (g.2 answer near).1))
 
 pub all_places : {A : Type 0} (kind : Kind) (holds : Standing → A → Type 0) (script : Script A) (s : Standing)
     → Goes kind holds s script
     → AllPlaces kind s script
 all_places kind holds (Done value) s g = tt
 all_places kind holds (Look look) s g = λ pace. all_places kind holds (look pace) s (g pace)
-all_places kind holds (Begin at script) s g = (g.0, all_places kind holds script (entered_in s at) g.1)
-all_places kind holds (Ask at question follow) s g = (g.0, λ answer near. all_places kind holds (follow answer) (noted s (Asked at question answer)) (g.1 answer near))
+all_places kind holds (Begin at script) s g = (g.0, g.1, all_places kind holds script (entered_in s at) g.2)
+all_places kind holds (Ask at question follow) s g = (g.0, g.1, λ answer near. ((g.2 answer near).0, all_places kind holds (follow answer) (noted s (Asked at question answer)) (g.2 answer near).1))
 
 -- What stands in a frame of this outset, and holds of the two vectors that were entered last.
 pub record Stands (f : Outset) (held : List ℤ → List ℤ → Type 0) (s : Standing) : Type 0 where
   pub frame_is : s.frame ≡ f
+  pub known : IsKnown s.answers
   pub held_is : held s.first s.second
 
 abbrev pub whatever : List ℤ → List ℤ → Type 0
 whatever first second = ⊤
 
--- an answer changes neither
+-- an answer changes neither the outset nor the vectors
 pub stays : {f : Outset} {held : List ℤ → List ℤ → Type 0} (s : Standing) (at : Place) (question : Question) (answer : ℤ)
     → Stands f held s → Stands f held (noted s (Asked at question answer))
-stays s at question answer is = record { frame_is = is.frame_is; held_is = is.held_is }
+stays s at question answer is = record { frame_is = is.frame_is; known = told_known s.answers at (heard at question answer) is.known; held_is = is.held_is }
 
 -- A script whose places are those of the frame, and which leaves what holds as it was.
 pub record Keeps {A : Type 0} (f : Outset) (held : List ℤ → List ℤ → Type 0) (script : Script A) : Type 0 where
   pub is : (s : Standing) → Stands f held s → Goes f.kind (λ t value. Stands f held t) s script
 
-abbrev pub Fits : Outset → (List ℤ → List ℤ → Type 0) → Place → Type 0
-Fits f held at = (s : Standing) → Stands f held s → IsPlace f.kind s at
+-- The place is one of the frame, and what is told of an answer is kept as it is.
+abbrev pub Fits : Outset → (List ℤ → List ℤ → Type 0) → Place → Question → Type 0
+Fits f held at question =
+    ((s : Standing) → Stands f held s → IsPlace f.kind s at) × ((answer : ℤ) → IsAnswer question answer → IsTold at (heard at question answer))
 
 module _ {f : Outset} {held : List ℤ → List ℤ → Type 0} where
   pub keep_none : {A : Type 0} {value : A} → Keeps f held (Done value)
@@ -97,31 +109,31 @@ module _ {f : Outset} {held : List ℤ → List ℤ → Type 0} where
   keep_test true a b = a refl
   keep_test false a b = b refl
 
-  pub keep_ask : (at : Place) (question : Question) → Fits f held at → Keeps f held (asks_at at question)
+  pub keep_ask : (at : Place) (question : Question) → Fits f held at question → Keeps f held (asks_at at question)
   unfolding asks_at
-  keep_ask at question fits = record { is = λ s i. (fits s i, λ answer near. stays s at question answer i) }
+  keep_ask at question fits = record { is = λ s i. (i.known, fits.0 s i, λ answer near. (fits.1 answer near.is_answer, stays s at question answer i)) }
 
-  pub keep_value : (at : Place) (question : Question) → Fits f held at → Keeps f held (asks_value_at at question)
+  pub keep_value : (at : Place) (question : Question) → Fits f held at question → Keeps f held (asks_value_at at question)
   unfolding asks_value_at
   keep_value at question fits = keep_then (keep_ask at question fits) (λ answer m. keep_none)
 
-  pub keep_bit : (at : Place) (p : ℕ) → Fits f held at → Keeps f held (asks_bit at p)
+  pub keep_bit : (at : Place) (p : ℕ) → Fits f held at (Bit p) → Keeps f held (asks_bit at p)
   unfolding asks_bit
   keep_bit at p fits = keep_then (keep_ask at _ fits) (λ answer m. keep_none)
 
-  pub keep_number : (at : Place) (question : Question) → Fits f held at → Keeps f held (asks_number at question)
+  pub keep_number : (at : Place) (question : Question) → Fits f held at question → Keeps f held (asks_number at question)
   unfolding asks_number
   keep_number at question fits = keep_then (keep_ask at question fits) (λ answer m. keep_none)
 
-  pub keep_bit_within : (at : Place) (p cost budget : ℕ) → Fits f held at → Keeps f held (bit_within at p cost budget)
+  pub keep_bit_within : (at : Place) (p cost budget : ℕ) → Fits f held at (Bit p) → Keeps f held (bit_within at p cost budget)
   unfolding bit_within
   keep_bit_within at p cost budget fits = keep_look (λ pace. keep_if (nat_le (tell_of pace + cost) budget) (keep_bit at p fits) keep_none)
 
-  pub keep_number_within : (at : Place) (question : Question) (cost budget other : ℕ) → Fits f held at → Keeps f held (number_within at question cost budget other)
+  pub keep_number_within : (at : Place) (question : Question) (cost budget other : ℕ) → Fits f held at question → Keeps f held (number_within at question cost budget other)
   unfolding number_within
   keep_number_within at question cost budget other fits = keep_look (λ pace. keep_if (nat_le (tell_of pace + cost) budget) (keep_number at question fits) keep_none)
 
-  pub keep_eighths_within : (at : Place) (question : Question) (cost eighths other : ℕ) → Fits f held at → Keeps f held (number_within_eighths at question cost eighths other)
+  pub keep_eighths_within : (at : Place) (question : Question) (cost eighths other : ℕ) → Fits f held at question → Keeps f held (number_within_eighths at question cost eighths other)
   unfolding number_within_eighths
   keep_eighths_within at question cost eighths other fits =
       keep_look (λ pace. keep_if (nat_le (tell_frac_of pace + cost) eighths) (keep_number at question fits) keep_none)

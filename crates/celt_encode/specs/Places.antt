@@ -1,47 +1,118 @@
--- That each question of a frame is about a band and a channel that the frame has, and so is each vector that is entered.
-use Rattle.std.specs.Prelude.{ℕ, ◌<◌, ⊤, false, true, ℤ}
+-- That what is wanted is said of each question of a frame: it is about a band and a channel that the frame has, and what was entered
+-- has the part that it is about. No guard of what is wanted is met there.
+use Rattle.std.specs.Prelude.{ℕ, suc, ◌+◌, ◌*◌, ◌/◌, ◌%◌, ◌^◌, ◌<◌, ◌≤◌, ◌≡◌, ⊤, Bool, false, true, not, ◌&&◌, ◌||◌, nat_eq, nat_le, nat_lt, ℤ, pos, negsuc, unsigned_abs, List, [], length, slice_index_or, get_or}
 use Rattle.celt_base.specs.declared.coder.Enter.{Enter}
 use Rattle.celt_base.specs.declared.coder.Place.{Place}
-use Rattle.celt_base.specs.declared.coder.Place.TheVariants.{Coarse, Tf, Boost, Skip, Fine, Theta, Inversion, SideSign, Pulses, Sign, Last}
+use Rattle.celt_base.specs.declared.coder.Place.TheVariants.{Octave, Period, Gain, Coarse, Tf, Spread, Boost, Skip, Intensity, Fine, Theta, Inversion, SideSign, Pulses, Sign, Last}
 use Rattle.celt_base.specs.declared.kind.Kind.{Kind}
 use Rattle.celt_base.specs.Paces.{Pace}
-use Rattle.celt_base.specs.WalkCalls.{meant}
+use Rattle.celt_base.specs.WalkCalls.{heard, meant}
 use Rattle.celt_base.specs.WalkScripts.{Script, Done, Look, Ask, Begin}
 use Rattle.celt_base.specs.Walks.{Asked}
+use Rattle.celt_tables.specs.Tables.{size_of}
 use Rattle.range_coder.specs.Nearest.{IsNearest}
-use Rattle.celt_encode.specs.Standing.{Standing, entered_in, noted}
+use Rattle.celt_encode.specs.declared.answers.Answers.{Answers}
+use Rattle.celt_encode.specs.Changes.{joined, has_row}
+use Rattle.celt_encode.specs.Known.{limited}
+use Rattle.celt_encode.specs.Leaves.{may_have, are_blocks}
+use Rattle.celt_encode.specs.Outsets.{Outset}
+use Rattle.celt_encode.specs.Standing.{Standing, vector_in, entered_in, noted}
 use Rattle.celt_encode.specs.Wanted.{wanted}
+
+-- a row of 21 bands for each of two channels
+pub record AreRows {A : Type 0} (rows : List (List A)) : Type 0 where
+  pub channels : length rows ≡ 2
+  pub bands : (channel : ℕ) → channel < 2 → length (get_or rows channel []) ≡ 21
+
+-- What an outset has for each band, and 800 items of each channel, or more.
+pub record HasRows (f : Outset) : Type 0 where
+  pub boosts : length f.boosts ≡ 21
+  pub energies : AreRows f.energies
+  pub targets : AreRows f.targets
+  pub units : (channel : ℕ) → channel < 2 → 800 ≤ length (slice_index_or f.units channel [])
+
+-- What is known of the answers has an entry for each channel and band.
+pub record IsKnown (a : Answers) : Type 0 where
+  pub coarse : AreRows a.coarse
+  pub fine : AreRows a.fine
+  pub bits : AreRows a.bits
+  pub leans : length a.leans ≡ 21
+  pub inverted : length a.inverted ≡ 21
 
 -- A frame of this kind has the channel and the band.
 pub record HasBand (kind : Kind) (channel band : ℕ) : Type 0 where
   pub channel_is : channel < kind.channels
   pub band_is : band < kind.end
 
--- The place is one that a frame of this kind has. Where both channels are meant the second is named.
+-- The vector has these n items, from `offset` on.
+pub record HasPart (xs : List ℤ) (offset n : ℕ) : Type 0 where
+  pub some : 1 ≤ n
+  pub inside : offset + n ≤ length xs
+
+-- The place is one that a frame of this kind has, by the vectors that were entered last. Where both channels are meant the second
+-- is named.
 unfoldable pub IsPlace : Kind → Standing → Place → Type 0
+IsPlace kind s Octave = 16 ≤ s.frame.setting.period + 1
+IsPlace kind s (Period octave) = 16 ≤ s.frame.setting.period + 1
+IsPlace kind s Gain = 3072 ≤ s.frame.setting.gain
 IsPlace kind s (Coarse band channel) = HasBand kind channel band
 IsPlace kind s (Tf band current) = band < kind.end
 IsPlace kind s (Boost band turn) = band < kind.end
 IsPlace kind s (Skip band bits) = band < kind.end
-IsPlace kind s (Fine band channel bits) = HasBand kind channel band
-IsPlace kind s (Theta band channel offset n qn false) = HasBand kind channel band
-IsPlace kind s (Theta band channel offset n qn true) = HasBand kind 1 band
+IsPlace kind s (Fine band channel bits) = HasBand kind channel band × (bits ≤ 8)
+IsPlace kind s (Theta band channel offset n qn false) = HasBand kind channel band × HasPart (vector_in s channel) offset (n + n) × (1 < qn)
+IsPlace kind s (Theta band channel offset n qn true) = HasBand kind 1 band × (n ≡ size_of kind band) × (1 < qn)
 IsPlace kind s (Inversion band) = HasBand kind 1 band
-IsPlace kind s (SideSign band theta) = HasBand kind 1 band
-IsPlace kind s (Pulses band channel offset n k blocks) = HasBand kind channel band
-IsPlace kind s (Sign band channel) = HasBand kind channel band
+IsPlace kind s (SideSign band theta) = HasBand kind 1 band × (size_of kind band ≡ 2)
+IsPlace kind s (Pulses band channel offset n k blocks) =
+    HasBand kind channel band × HasPart (vector_in s channel) offset n × (may_have n k ≡ true) × (are_blocks n blocks ≡ true)
+IsPlace kind s (Sign band channel) = HasBand kind channel band × (size_of kind band ≡ 1)
 IsPlace kind s (Last band channel) = HasBand kind channel band
 IsPlace kind s at = ⊤
 
+-- What is told is kept as it is.
+unfoldable pub IsTold : Place → ℤ → Type 0
+IsTold (Coarse band channel) value = limited value ≡ value
+IsTold Spread answer = unsigned_abs answer ≤ 3
+IsTold (Intensity coded) answer = unsigned_abs answer ≤ 21
+IsTold (Fine band channel bits) answer = unsigned_abs answer ≤ 255
+IsTold (Theta band channel offset n qn true) answer = unsigned_abs answer ≤ 256
+IsTold at answer = ⊤
+
+-- ---- the vectors that are entered
+
+-- So many runs of so many items are the whole vector, and there is an order for them.
+abbrev pub fit_blocks : ℕ → ℕ → Bool → ℕ → Bool
+fit_blocks n s hadamard size = nat_eq (n * s) size && (nat_lt 0 s && (not hadamard || has_row s))
+
+-- A vector of this size finds pairs for each join of a change for fewer blocks; and where its blocks are put one behind the other,
+-- they fit.
+unfoldable pub can_change : ℤ → ℕ → ℕ → Bool
+can_change (pos times) blocks size =
+    nat_eq (size % 2 ^ times) 0
+    && (nat_le (blocks / 2 ^ times) 1 || fit_blocks (size / blocks) (blocks / 2 ^ times * 2 ^ times) (nat_eq blocks 1) size)
+can_change (negsuc times) blocks size =
+    let r = joined (suc times) (record { items = []; count = size / blocks; stride = blocks }) in
+    nat_le r.stride 1 || fit_blocks r.count r.stride (nat_eq blocks 1) size
+
+pub record CanChange (tf : ℤ) (blocks size : ℕ) : Type 0 where
+  pub some : 1 ≤ size
+  pub some_blocks : 1 ≤ blocks
+  pub divides : size % blocks ≡ 0
+  pub few : unsigned_abs tf ≤ 3
+  pub fits : can_change tf blocks size ≡ true
+
 unfoldable pub IsEntered : Kind → Standing → Enter → Type 0
-IsEntered kind s at = HasBand kind at.channel at.band
+IsEntered kind s at = HasBand kind at.channel at.band × CanChange at.tf at.blocks (size_of kind at.band)
 
 -- At whatever pace, each place of the script is one that the frame has, where each question before has an answer that is nearest
 -- to what is wanted there.
 abbrev pub AllPlaces : {A : Type 0} → Kind → Standing → Script A → Type 0
 AllPlaces kind s (Done value) = ⊤
 AllPlaces kind s (Look look) = (pace : Pace) → AllPlaces kind s (look pace)
-AllPlaces kind s (Begin at script) = IsEntered kind s at × AllPlaces kind (entered_in s at) script
+AllPlaces kind s (Begin at script) = IsKnown s.answers × IsEntered kind s at × AllPlaces kind (entered_in s at) script
 AllPlaces kind s (Ask at question follow) =
-    IsPlace kind s at
-    × ((answer : ℤ) → IsNearest question (meant at question (wanted s at)) answer → AllPlaces kind (noted s (Asked at question answer)) (follow answer))
+    IsKnown s.answers
+    × IsPlace kind s at
+    × ((answer : ℤ) → IsNearest question (meant at question (wanted s at)) answer
+    → IsTold at (heard at question answer) × AllPlaces kind (noted s (Asked at question answer)) (follow answer))

@@ -1,15 +1,28 @@
 //! Laws that no frame meets a guard of a definition: what the definitions say where something cannot happen is never used. Each
 //! is the clause of a function that does nothing.
-ghost use Rattle.std.specs.Prelude.{ℕ, ◌*◌, ◌≤◌, List};
+ghost use Rattle.std.specs.Prelude.{◌≡◌, ℕ, ◌*◌, ◌/◌, ◌^◌, ◌≤◌, Bool, if◌then◌else◌, ℤ, pos, int_lt, unsigned_abs, List};
+ghost use Rattle.band_energy.specs.WantedEnergies.{wanted_coarse, wanted_fine, wanted_last};
+ghost use Rattle.celt_analysis.specs.Analyses.{Analysis};
+ghost use Rattle.celt_base.specs.declared.coder.Enter.{Enter};
+ghost use Rattle.celt_base.specs.declared.coder.Place.TheVariants.{Coarse, Fine, Last, Skip, Pulses};
+ghost use Rattle.celt_base.specs.declared.kind.Kind.{Kind};
 ghost use Rattle.celt_base.specs.Questions.{Answered, interval_of};
 ghost use Rattle.frame_symbols.specs.Frames.{frame_script};
+ghost use Rattle.celt_tables.specs.Tables.{width_of};
+ghost use Rattle.pulse_vectors.specs.Rows.{rank_of};
 ghost use Rattle.range_coder.specs.Codes.{AreAnswers, FitTypes, IsCode, told};
+ghost use Rattle.celt_encode.specs.Changes.{more, fewer};
 ghost use Rattle.celt_encode.specs.Codes.{code_of};
+ghost use Rattle.celt_encode.specs.Encoders.{outset_by};
+ghost use Rattle.celt_encode.specs.EnergiesWanted.{target_at, coarse_energy, fine_energy};
 ghost use Rattle.celt_encode.specs.Frames.{chosen_list, kept_of, frame_of};
+ghost use Rattle.celt_encode.specs.Leaves.{pulses_for};
 ghost use Rattle.celt_encode.specs.Outsets.{Outset};
-ghost use Rattle.celt_encode.specs.Places.{AllPlaces};
+ghost use Rattle.celt_encode.specs.Places.{AreRows, HasRows, IsPlace, IsEntered, AllPlaces};
 ghost use Rattle.celt_encode.specs.Rooms.{HasRoom};
-ghost use Rattle.celt_encode.specs.Standing.{begun};
+ghost use Rattle.celt_encode.specs.Standing.{Standing, begun, vector_in, entered_in};
+ghost use Rattle.celt_encode.specs.Vectors.{part_of, plain_vector};
+ghost use Rattle.celt_encode.specs.Wanted.{flag_of, wanted};
 
 /// The code that is computed is that of the list wherever the list tells no more bits than the frame has: a block is found, it
 /// has room before the raw bits, and the number has no more bytes than the frame. The kept answers always tell no more, where
@@ -21,9 +34,36 @@ pub fn law_room()
     ensures frame { (f : Outset) → 2 ≤ f.len → AreAnswers (chosen_list f) → FitTypes (chosen_list f) → IsCode (kept_of f) f.len (frame_of f) }
 {}
 
-/// Each question of a frame's choice is about a band below the kind's end and about a channel that the frame has, and so is each
-/// vector that is entered: at the energies, the changes, the boosts, the skipping, the angles, the signs and the pulses. What is
-/// asked of both channels is asked in stereo alone. So no frame meets the guard of a band from 21 on or of a channel from 2 on.
+/// What is wanted is said at each question of a frame's choice, and so is each vector that is entered: the definitions have a
+/// proper case for each of them. The band and the channel are the frame's; a part of a vector, or the two halves of a split, lie in
+/// the vector that was entered for the channel; the pulses of a part are such as it may have, in blocks that divide it; an angle has
+/// steps, a fine energy at most 8 bits, and the post-filter that is asked has a gain and an octave. A vector that is entered can take
+/// its changes. Each list of what is known has an entry for each channel and band, and what is told is kept as it is.
 pub fn law_places()
-    ensures { (f : Outset) → AllPlaces f.kind (begun f) (frame_script f.kind f.len) }
+    ensures { (f : Outset) → HasRows f → f.len ≤ 1275 → AllPlaces f.kind (begun f) (frame_script f.kind f.len) }
+{}
+
+/// At such a place none of the guards decides what is wanted or entered.
+pub fn law_wanted()
+    ensures coarse { (s : Standing) (band channel : ℕ) → IsPlace s.frame.kind s (Coarse band channel)
+        → wanted s (Coarse band channel) ≡ wanted_coarse s.frame.kind s.answers.intra s.frame.energies s.answers.coarse channel band (target_at s.frame channel band) }
+    ensures fine { (s : Standing) (band channel bits : ℕ) → IsPlace s.frame.kind s (Fine band channel bits)
+        → wanted s (Fine band channel bits) ≡ wanted_fine (target_at s.frame channel band) (coarse_energy s.frame s.answers channel band) bits }
+    ensures last { (s : Standing) (band channel : ℕ) → IsPlace s.frame.kind s (Last band channel)
+        → wanted s (Last band channel) ≡ wanted_last (target_at s.frame channel band) (fine_energy s.frame s.answers channel band) }
+    ensures skip { (s : Standing) (band : ℕ) (bits : ℤ) → IsPlace s.frame.kind s (Skip band bits)
+        → wanted s (Skip band bits) ≡ flag_of (int_lt (pos (7 * width_of band * 2 ^ s.frame.kind.lm * 8 / 16)) bits) }
+    ensures pulses { (s : Standing) (band channel offset n k blocks : ℕ) → IsPlace s.frame.kind s (Pulses band channel offset n k blocks)
+        → wanted s (Pulses band channel offset n k blocks)
+        ≡ pos (rank_of (pulses_for blocks k s.answers.spread (part_of (vector_in s channel) offset n))) }
+    ensures entered { (s : Standing) (at : Enter) → HasRows s.frame → IsEntered s.frame.kind s at
+        → vector_in (entered_in s at) at.channel
+        ≡ (if int_lt at.tf (pos 0)
+        then more (unsigned_abs at.tf) at.blocks (plain_vector s.frame s.answers at.channel at.band)
+        else fewer (unsigned_abs at.tf) at.blocks (plain_vector s.frame s.answers at.channel at.band)) }
+{}
+
+/// What an analysis and the energies before come to has the lists that the law of the places asks for.
+pub fn law_outsets()
+    ensures { (kind : Kind) (len : ℕ) (first : Bool) (energies : List (List ℤ)) (a : Analysis) → AreRows energies → HasRows (outset_by kind len first energies a) }
 {}
