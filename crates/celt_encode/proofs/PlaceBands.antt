@@ -1,7 +1,7 @@
 -- The places of the bands' shapes.
-use Rattle.std.proofs.Common.{◌≡◌, ◌≢◌, ℕ, zero, suc, ◌+◌, ◌/◌, ◌<◌, ◌≤◌, List, [], length, Bool, true, false, not, ◌&&◌, ◌||◌, nat_eq, nat_le, if◌then◌else◌, inl, inr, sym, ◌∙◌, subst, arith}
+use Rattle.std.proofs.Common.{◌≡◌, ◌≢◌, ℕ, zero, suc, ◌+◌, ◌/◌, ◌<◌, ◌≤◌, List, [], length, Bool, true, false, not, ◌&&◌, ◌||◌, nat_eq, nat_le, if◌then◌else◌, inl, inr, refl, sym, ◌∙◌, ap, subst, arith}
 use Rattle.std.specs.Prelude.{ℤ, pos, ◌-ℤ◌, int_le, int_lt, nat_lt, min, unsigned_abs, negsuc, slice_index_or}
-use Rattle.std.proofs.lemmas.Bool.{cases_eq, and_parts, eqb-true}
+use Rattle.std.proofs.lemmas.Bool.{false≢true, cases_eq, and_parts, eqb-true}
 use Rattle.std.proofs.lemmas.Bool.Decides.{nat_tests}
 use Rattle.band_plan.specs.declared.channels.Band.{Band}
 use Rattle.band_plan.specs.declared.orders.Order.{Order}
@@ -35,15 +35,38 @@ use Rattle.pulse_vectors.proofs.Logs.{greatest-within}
 use Rattle.pulse_vectors.proofs.CostSteps.{last-most}
 use Rattle.celt_encode.specs.Leaves.{may_have}
 use Rattle.celt_encode.specs.Outsets.{Outset}
-use Rattle.celt_encode.specs.Places.{IsPlace, IsTold, IsEntered, HasBand, HasRows, CanChange}
+use Rattle.celt_encode.specs.declared.answers.Answers.{Answers}
+use Rattle.celt_encode.specs.Places.{HasRows, HasBand, IsOpen, IsPlace, IsTold, IsEntered, CanChange}
 use Rattle.celt_encode.specs.Standing.{Standing, entered_in}
 use Rattle.celt_encode.specs.Vectors.{entered_vector}
 use Rattle.celt_encode.proofs.PlaceRules.{goes_weaker, Stands, whatever, Keeps, Fits, keep_none, keep_then, keep_look, keep_if, keep_test, keep_ask, keep_each}
 use Rattle.celt_encode.proofs.PlaceVectors.{length_entered, parts_fit, IsWhole, part_is, part_splits, FitsBand, fits_at}
 
--- the vector that was entered last in a channel has so many items
-abbrev pub sized : ℕ → ℕ → List ℤ → List ℤ → Type 0
-sized channel size first second = length (if nat_eq channel 0 then first else second) ≡ size
+-- The vector that was entered last in a channel is the band's, by what was answered then.
+pub record Opened (f : Outset) (channel band : ℕ) (first second : List ℤ) : Type 0 where
+  pub answers : Answers
+  pub at : Enter
+  pub channel_is : at.channel ≡ channel
+  pub band_is : at.band ≡ band
+  pub vector_is : (if nat_eq channel 0 then first else second) ≡ entered_vector f answers at
+
+opened_length : {f : Outset} {channel band : ℕ} {first second : List ℤ} → HasRows f → HasBand f.kind channel band → Opened f channel band first second
+    → length (if nat_eq channel 0 then first else second) ≡ size_of f.kind band
+opened_length {f} {channel} {band} rows has o =
+    let at : HasBand f.kind o.at.channel o.at.band =
+    subst (λ c. HasBand f.kind c o.at.band) (sym o.channel_is) (subst (HasBand f.kind channel) (sym o.band_is) has) in
+    ap length o.vector_is ∙ length_entered f o.answers o.at rows at ∙ ap (size_of f.kind) o.band_is
+
+is_open : {f : Outset} {channel band : ℕ} (s : Standing) → Stands f (Opened f channel band) s → IsOpen s channel band
+is_open s i =
+    let o = i.held_is in
+    record {
+      answers = o.answers;
+      at = o.at;
+      channel_is = o.channel_is;
+      band_is = o.band_is;
+      vector_is = o.vector_is ∙ ap (λ g. entered_vector g o.answers o.at) (sym i.frame_is);
+    }
 
 -- ---- a part
 
@@ -103,39 +126,39 @@ keep_flag : {f : Outset} {held : List ℤ → List ℤ → Type 0} (at : Place) 
 unfolding asks_flag
 keep_flag at question fits = keep_then (keep_ask at question fits) (λ answer m. keep_none)
 
-module _ {f : Outset} {size : ℕ} where
-  vector_keeps : (p : Piece) (q : ℕ) → HasBand f.kind p.channel p.band → p.offset + p.n ≤ size → IsWhole p.n p.blocks → q ≤ last_of p.n
-      → Keeps f (sized p.channel size) (vector_script p q)
+module _ {f : Outset} (rows : HasRows f) where
+  vector_keeps : (p : Piece) (q : ℕ) → HasBand f.kind p.channel p.band → p.offset + p.n ≤ size_of f.kind p.band → IsWhole p.n p.blocks → q ≤ last_of p.n
+      → Keeps f (Opened f p.channel p.band) (vector_script p q)
   unfolding vector_script IsPlace IsTold
   vector_keeps p zero has inside whole most = keep_none
   vector_keeps p (suc q) has inside whole most =
       let two = whole.least in
       keep_then (keep_ask (Pulses p.band p.channel p.offset p.n (pulses_at (suc q)) p.blocks) _ (
         λ s i.
-            let e = i.held_is in
-            (has, record { some = omega (arith, two); inside = omega (arith, e, inside) }, has_pulses p.n q two whole.most most, whole.are),
+            let e = opened_length rows has i.held_is in
+            (has, is_open s i, record { some = omega (arith, two); inside = omega (arith, e, inside) }, has_pulses p.n q two whole.most most, whole.are),
         λ answer is. tt,
       ))
       (λ answer m. keep_none)
 
-  leaf_keeps : (p : Piece) (s : Share) → HasBand f.kind p.channel p.band → p.offset + p.n ≤ size → IsWhole p.n p.blocks → Keeps f (sized p.channel size) (leaf_script p s)
+  leaf_keeps : (p : Piece) (s : Share) → HasBand f.kind p.channel p.band → p.offset + p.n ≤ size_of f.kind p.band → IsWhole p.n p.blocks → Keeps f (Opened f p.channel p.band) (leaf_script p s)
   unfolding leaf_script
   leaf_keeps p s has inside whole =
       let a = fitting_most p.n s.left (index_near p.n s.bits) in
       let b = near_most p.n s.bits in
       vector_keeps p (fitting p.n s.left (index_near p.n s.bits)) has inside whole (omega (arith, a, b))
 
-  split_keeps : (level : ℕ) (p : Piece) (bits : ℤ) → HasBand f.kind p.channel p.band → p.offset + p.n ≤ size → 2 < p.n
-      → Keeps f (sized p.channel size) (split_theta level p bits)
+  split_keeps : (level : ℕ) (p : Piece) (bits : ℤ) → HasBand f.kind p.channel p.band → p.offset + p.n ≤ size_of f.kind p.band → 2 < p.n
+      → Keeps f (Opened f p.channel p.band) (split_theta level p bits)
   unfolding split_theta IsPlace IsTold
   split_keeps level p bits has inside more = by_steps (steps_of false p.band level (p.n / 2) bits)
     where
-      by_steps : (steps : ℕ) → Keeps f (sized p.channel size) (split_theta_of p steps)
+      by_steps : (steps : ℕ) → Keeps f (Opened f p.channel p.band) (split_theta_of p steps)
       by_steps steps = keep_test (nat_le steps 1) (λ few. keep_none) (λ many.
           keep_then (keep_timed (AtTheta p.band p.channel p.offset (p.n / 2) steps false) _ (
             λ s i.
-                let e = i.held_is in
-                (has, record { some = omega (arith, more); inside = omega (arith, e, inside) }, grind (arith, nat_tests, many)),
+                let e = opened_length rows has i.held_is in
+                (has, is_open s i, record { some = omega (arith, more); inside = omega (arith, e, inside) }, grind (arith, nat_tests, many)),
             λ answer is. tt,
           ))
           (λ timed m. keep_none))
@@ -154,37 +177,53 @@ splits_more : (n : ℕ) (bits : ℤ) → splits n bits ≡ true → 2 < n
 unfolding splits
 splits_more n bits e = let a = (and_parts (nat_lt 2 n) _ e).0 in grind (arith, nat_tests, a)
 
-pub part_keeps : {f : Outset} {size : ℕ} (level : ℕ) (p : Piece) (s : Share) → HasBand f.kind p.channel p.band → p.offset + p.n ≤ size
+pub part_keeps : {f : Outset} → HasRows f → (level : ℕ) (p : Piece) (s : Share) → HasBand f.kind p.channel p.band → p.offset + p.n ≤ size_of f.kind p.band
     → parts_fit level p.n p.blocks ≡ true
-    → Keeps f (sized p.channel size) (part_script level p s)
+    → Keeps f (Opened f p.channel p.band) (part_script level p s)
 unfolding part_script half_of
-part_keeps zero p s has inside fits = leaf_keeps p s has inside (part_is zero p.n p.blocks fits)
-part_keeps {f} {size} (suc level) p s has inside fits =
+part_keeps rows zero p s has inside fits = leaf_keeps rows p s has inside (part_is zero p.n p.blocks fits)
+part_keeps {f} rows (suc level) p s has inside fits =
     keep_test (splits p.n s.bits)
     (λ is.
     let more = splits_more p.n s.bits is in
-    keep_then (split_keeps level p s.bits has inside more) (λ t m.
+    keep_then (split_keeps rows level p s.bits has inside more) (λ t m.
     sides_keeps (λ second share. part_script level (half_of p second) share) t (split_order level p s t) (s.left -ℤ t.spent)
-    (λ second share. part_keeps level (half_of p second) share has (half_inside second p.offset p.n size inside) (part_splits level p.n p.blocks fits more))))
-    (λ none. leaf_keeps p s has inside (part_is (suc level) p.n p.blocks fits))
+    (λ second share. part_keeps rows level (half_of p second) share has (half_inside second p.offset p.n (size_of f.kind p.band) inside) (part_splits level p.n p.blocks fits more))))
+    (λ none. leaf_keeps rows p s has inside (part_is (suc level) p.n p.blocks fits))
 
 -- ---- a band
 
--- the outset stays, whatever is entered, and the vector that is entered has the band's size
-entered_stands : {f : Outset} (s : Standing) (at : Enter) → HasRows f → HasBand f.kind at.channel at.band → Stands f whatever s
-    → Stands f (sized at.channel (size_of f.kind at.band)) (entered_in s at)
+-- the outset stays, whatever is entered, and the vector that is entered is the band's
+entered_stands : {f : Outset} (s : Standing) (at : Enter) → Stands f whatever s → Stands f (Opened f at.channel at.band) (entered_in s at)
 unfolding entered_in
-entered_stands {f} s at rows has is =
-    let e : length (entered_vector f s.answers at) ≡ size_of f.kind at.band = length_entered f s.answers at rows has in
-    let g : length (entered_vector s.frame s.answers at) ≡ size_of f.kind at.band =
-    subst (λ o. length (entered_vector o s.answers at) ≡ size_of f.kind at.band) (sym is.frame_is) e in
-    by_test (nat_eq at.channel 0) g
+entered_stands {f} s at is = by_test (nat_eq at.channel 0) refl
   where
-    by_test : (b : Bool) → length (entered_vector s.frame s.answers at) ≡ size_of f.kind at.band
-        → Stands f (λ first second. length (if b then first else second) ≡ size_of f.kind at.band)
-        (if b then record s { first = entered_vector s.frame s.answers at } else record s { second = entered_vector s.frame s.answers at })
-    by_test true g = record { frame_is = is.frame_is; known = is.known; held_is = g }
-    by_test false g = record { frame_is = is.frame_is; known = is.known; held_is = g }
+    vector_is : entered_vector s.frame s.answers at ≡ entered_vector f s.answers at
+    vector_is = ap (λ g. entered_vector g s.answers at) is.frame_is
+
+    opened_by : (first second : List ℤ) → (if nat_eq at.channel 0 then first else second) ≡ entered_vector s.frame s.answers at → Opened f at.channel at.band first second
+    opened_by first second e = record { answers = s.answers; at = at; channel_is = refl; band_is = refl; vector_is = e ∙ vector_is }
+
+    first_is : (b : Bool) (first second : List ℤ) → b ≡ true → (if b then first else second) ≡ first
+    first_is true first second e = refl
+    first_is false first second e = absurd (false≢true e)
+
+    second_is : (b : Bool) (first second : List ℤ) → b ≡ false → (if b then first else second) ≡ second
+    second_is true first second e = absurd (false≢true (sym e))
+    second_is false first second e = refl
+
+    by_test : (b : Bool) → nat_eq at.channel 0 ≡ b
+        → Stands f (Opened f at.channel at.band) (if b then record s { first = entered_vector s.frame s.answers at } else record s { second = entered_vector s.frame s.answers at })
+    by_test true e = record {
+      frame_is = is.frame_is;
+      known = is.known;
+      held_is = opened_by (entered_vector s.frame s.answers at) s.second (first_is (nat_eq at.channel 0) (entered_vector s.frame s.answers at) s.second e);
+    }
+    by_test false e = record {
+      frame_is = is.frame_is;
+      known = is.known;
+      held_is = opened_by s.first (entered_vector s.frame s.answers at) (second_is (nat_eq at.channel 0) s.first (entered_vector s.frame s.answers at) e);
+    }
 
 side_below : (channels : ℕ) (second : Bool) → 1 < channels → side_of second < channels
 unfolding side_of
@@ -202,16 +241,16 @@ two_channels channels band intensity n dual some mono is =
 
 module _ {f : Outset} (rows : HasRows f) where
   keep_begin : {A : Type 0} {script : Script A} (at : Enter) → HasBand f.kind at.channel at.band → CanChange at.tf at.blocks (size_of f.kind at.band)
-      → Keeps f (sized at.channel (size_of f.kind at.band)) script
+      → Keeps f (Opened f at.channel at.band) script
       → Keeps f whatever (Begin at script)
   unfolding IsEntered
   keep_begin {script = script} at has changes a = record {
     is = λ s i. (
       i.known,
       (has, changes),
-      goes_weaker f.kind (λ t value. Stands f (sized at.channel (size_of f.kind at.band)) t) (λ t value. Stands f whatever t) script (entered_in s at)
+      goes_weaker f.kind (λ t value. Stands f (Opened f at.channel at.band) t) (λ t value. Stands f whatever t) script (entered_in s at)
           (λ t value j. record { frame_is = j.frame_is; known = j.known; held_is = tt })
-          (a.is (entered_in s at) (entered_stands s at rows has i)),
+          (a.is (entered_in s at) (entered_stands s at i)),
     );
   }
 
@@ -230,7 +269,7 @@ module _ {f : Outset} (rows : HasRows f) where
       (λ more.
       let ne : b.n ≢ 1 = grind (arith, nat_tests, more) in
       keep_begin (entered_of b channel) has (subst (CanChange b.tf b.blocks) same (fits.changes ne))
-      (part_keeps b.level (whole_of b channel) s has (omega (arith, same)) (fits.parts ne)))
+      (part_keeps rows b.level (whole_of b channel) s has (omega (arith, same)) (fits.parts ne)))
 
   -- ---- two channels
 

@@ -11,7 +11,7 @@ use Rattle.frame_symbols.specs.Frames.{opening_script}
 use Rattle.frame_symbols.specs.Openings.{off, on_script, filter_script, transient_script}
 use Rattle.range_coder.specs.Nearest.{IsNearest, distance}
 use Rattle.celt_encode.specs.Outsets.{Outset}
-use Rattle.celt_encode.specs.Places.{IsPlace, IsTold}
+use Rattle.celt_encode.specs.Places.{HasOctave, IsPlace, IsTold}
 use Rattle.celt_encode.specs.Standing.{Standing}
 use Rattle.celt_encode.specs.Wanted.{flag_of, is_on, wanted}
 use Rattle.celt_encode.proofs.PlaceRules.{Goes, goes_then, Stands, stays, Keeps, keep_none, keep_then, keep_if, keep_number, keep_bit_within, keep_number_within}
@@ -32,8 +32,11 @@ filter_wanted : (s : Standing) (answer : ℤ) → IsNearest (Bit 1) (meant Filte
 unfolding wanted meant
 filter_wanted s answer near one = leb-true 3072 s.frame.setting.gain (wanted_flag (is_on s.frame.setting) answer near one)
 
-octave_fits : (s : Standing) → 16 ≤ s.frame.setting.period + 1
-octave_fits s = let low = s.frame.setting.least_period in omega (arith, low)
+octave_fits : (s : Standing) → HasOctave s.frame.setting
+octave_fits s =
+    let low = s.frame.setting.least_period in
+    let high = s.frame.setting.most_period in
+    record { least = omega (arith, low); most = omega (arith, high) }
 
 module _ {f : Outset} {held : List ℤ → List ℤ → Type 0} where
   filter_goes : (budget : ℕ) (s : Standing) → Stands f held s
@@ -45,7 +48,7 @@ module _ {f : Outset} {held : List ℤ → List ℤ → Type 0} where
       gain_of answer near one = subst (λ (o : Outset). 3072 ≤ o.setting.gain) i.frame_is (filter_wanted s answer near one)
 
       by_test : (b : Bool) → Goes f.kind (λ t on. Stands f held t × (on ≡ true → 3072 ≤ f.setting.gain)) s (if b then asks_bit Filter 1 else Done false)
-      by_test true = (i.known, tt, λ answer near. (tt, (stays s Filter (Bit 1) answer i, gain_of answer near)))
+      by_test true = (i.known, tt, λ answer near. (tt, (stays s Filter (Bit 1) answer tt i, gain_of answer near)))
       by_test false = (i, λ e. absurd (false≢true e))
 
   on_keeps : (budget : ℕ) → 3072 ≤ f.setting.gain → Keeps f held (on_script budget)

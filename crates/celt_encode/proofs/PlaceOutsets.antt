@@ -1,12 +1,13 @@
 -- The lists of an outset that an analysis comes to.
 use Rattle.std.proofs.Common.{◌≡◌, ℕ, zero, suc, ◌-◌, ◌<◌, ◌≤◌, List, [], ◌∷◌, length, replicate, Bool, get_or, refl, arith, length-append}
 use Rattle.std.proofs.lemmas.List.{length-replicate}
-use Rattle.std.specs.Prelude.{ℤ, pos, slice_index_or}
+use Rattle.std.specs.Prelude.{ℤ, pos, not, slice_index_or}
 use Rattle.std.proofs.lemmas.List.FromFn.{length-map-range_with_len}
 use Rattle.celt_base.specs.declared.kind.Kind.{Kind}
 use Rattle.fixed_math.proofs.ItemLemmas.{length-listed}
 use Rattle.celt_analysis.specs.Analyses.{Analysis, target_in, height_in}
-use Rattle.celt_encode.specs.Encoders.{outset_by}
+use Rattle.celt_synth.specs.Rows.{grid, greater_at, greater}
+use Rattle.celt_encode.specs.Encoders.{EncoderState, outset_by, outset_for}
 use Rattle.celt_encode.specs.Listening.{stands_out, targets_for}
 use Rattle.celt_encode.specs.Places.{AreRows, HasRows}
 use Rattle.celt_encode.specs.Units.{units_below, filled_up, unit_row, units_for}
@@ -39,3 +40,14 @@ rows_are kind len first energies a are = record {
     by_channel zero below = unit_long kind a.left
     by_channel (suc zero) below = unit_long kind a.right
     by_channel (suc (suc n)) below = absurd (omega (arith, below))
+
+grid_are : (f : ℕ → ℕ → ℤ) → AreRows (grid f)
+grid_are f = record { channels = refl; bands = by_channel }
+  where
+    by_channel : (channel : ℕ) → channel < 2 → length (get_or (grid f) channel []) ≡ 21
+    by_channel zero below = length-listed 21 (f 0)
+    by_channel (suc zero) below = length-listed 21 (f 1)
+    by_channel (suc (suc n)) below = absurd (omega (arith, below))
+
+pub encoder_rows : (e : EncoderState) (a : Analysis) (len : ℕ) → HasRows (outset_for e a len)
+encoder_rows e a len = rows_are e.kind len (not e.made) (greater e.kind.channels e.shared.energies) a (grid_are (greater_at e.kind.channels e.shared.energies))

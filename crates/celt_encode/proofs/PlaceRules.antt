@@ -75,8 +75,10 @@ whatever first second = ⊤
 
 -- an answer changes neither the outset nor the vectors
 pub stays : {f : Outset} {held : List ℤ → List ℤ → Type 0} (s : Standing) (at : Place) (question : Question) (answer : ℤ)
-    → Stands f held s → Stands f held (noted s (Asked at question answer))
-stays s at question answer is = record { frame_is = is.frame_is; known = told_known s.answers at (heard at question answer) is.known; held_is = is.held_is }
+    → IsPlace f.kind s at
+    → Stands f held s
+    → Stands f held (noted s (Asked at question answer))
+stays {f} s at question answer place is = record { frame_is = is.frame_is; known = told_known f.kind s at (heard at question answer) place is.known; held_is = is.held_is }
 
 -- A script whose places are those of the frame, and which leaves what holds as it was.
 pub record Keeps {A : Type 0} (f : Outset) (held : List ℤ → List ℤ → Type 0) (script : Script A) : Type 0 where
@@ -111,7 +113,7 @@ module _ {f : Outset} {held : List ℤ → List ℤ → Type 0} where
 
   pub keep_ask : (at : Place) (question : Question) → Fits f held at question → Keeps f held (asks_at at question)
   unfolding asks_at
-  keep_ask at question fits = record { is = λ s i. (i.known, fits.0 s i, λ answer near. (fits.1 answer near.is_answer, stays s at question answer i)) }
+  keep_ask at question fits = record { is = λ s i. (i.known, fits.0 s i, λ answer near. (fits.1 answer near.is_answer, stays s at question answer (fits.0 s i) i)) }
 
   pub keep_value : (at : Place) (question : Question) → Fits f held at question → Keeps f held (asks_value_at at question)
   unfolding asks_value_at

@@ -5,6 +5,7 @@ use Rattle.celt_base.specs.declared.coder.Enter.{Enter}
 use Rattle.celt_base.specs.declared.coder.Place.{Place}
 use Rattle.celt_base.specs.declared.coder.Place.TheVariants.{Octave, Period, Gain, Coarse, Tf, Spread, Boost, Skip, Intensity, Fine, Theta, Inversion, SideSign, Pulses, Sign, Last}
 use Rattle.celt_base.specs.declared.kind.Kind.{Kind}
+use Rattle.celt_base.specs.declared.state.Setting.{Setting}
 use Rattle.celt_base.specs.Paces.{Pace}
 use Rattle.celt_base.specs.WalkCalls.{heard, meant}
 use Rattle.celt_base.specs.WalkScripts.{Script, Done, Look, Ask, Begin}
@@ -17,6 +18,7 @@ use Rattle.celt_encode.specs.Known.{limited}
 use Rattle.celt_encode.specs.Leaves.{may_have, are_blocks}
 use Rattle.celt_encode.specs.Outsets.{Outset}
 use Rattle.celt_encode.specs.Standing.{Standing, vector_in, entered_in, noted}
+use Rattle.celt_encode.specs.Vectors.{entered_vector}
 use Rattle.celt_encode.specs.Wanted.{wanted}
 
 -- a row of 21 bands for each of two channels
@@ -31,11 +33,12 @@ pub record HasRows (f : Outset) : Type 0 where
   pub targets : AreRows f.targets
   pub units : (channel : ℕ) → channel < 2 → 800 ≤ length (slice_index_or f.units channel [])
 
--- What is known of the answers has an entry for each channel and band.
+-- What is known of the answers has an entry for each channel and band; a fine energy has at most 8 bits.
 pub record IsKnown (a : Answers) : Type 0 where
   pub coarse : AreRows a.coarse
   pub fine : AreRows a.fine
   pub bits : AreRows a.bits
+  pub few_bits : (channel band : ℕ) → get_or (get_or a.bits channel []) band 0 ≤ 8
   pub leans : length a.leans ≡ 21
   pub inverted : length a.inverted ≡ 21
 
@@ -49,23 +52,37 @@ pub record HasPart (xs : List ℤ) (offset n : ℕ) : Type 0 where
   pub some : 1 ≤ n
   pub inside : offset + n ≤ length xs
 
+-- The vector that was entered last in the channel is the band's, by what was answered then.
+pub record IsOpen (s : Standing) (channel band : ℕ) : Type 0 where
+  pub answers : Answers
+  pub at : Enter
+  pub channel_is : at.channel ≡ channel
+  pub band_is : at.band ≡ band
+  pub vector_is : vector_in s channel ≡ entered_vector s.frame answers at
+
+-- The period is in one of six octaves.
+pub record HasOctave (setting : Setting) : Type 0 where
+  pub least : 16 ≤ setting.period + 1
+  pub most : setting.period + 1 < 1024
+
 -- The place is one that a frame of this kind has, by the vectors that were entered last. Where both channels are meant the second
 -- is named.
 unfoldable pub IsPlace : Kind → Standing → Place → Type 0
-IsPlace kind s Octave = 16 ≤ s.frame.setting.period + 1
-IsPlace kind s (Period octave) = 16 ≤ s.frame.setting.period + 1
+IsPlace kind s Octave = HasOctave s.frame.setting
+IsPlace kind s (Period octave) = HasOctave s.frame.setting
 IsPlace kind s Gain = 3072 ≤ s.frame.setting.gain
 IsPlace kind s (Coarse band channel) = HasBand kind channel band
 IsPlace kind s (Tf band current) = band < kind.end
 IsPlace kind s (Boost band turn) = band < kind.end
 IsPlace kind s (Skip band bits) = band < kind.end
 IsPlace kind s (Fine band channel bits) = HasBand kind channel band × (bits ≤ 8)
-IsPlace kind s (Theta band channel offset n qn false) = HasBand kind channel band × HasPart (vector_in s channel) offset (n + n) × (1 < qn)
+IsPlace kind s (Theta band channel offset n qn false) =
+    HasBand kind channel band × IsOpen s channel band × HasPart (vector_in s channel) offset (n + n) × (1 < qn)
 IsPlace kind s (Theta band channel offset n qn true) = HasBand kind 1 band × (n ≡ size_of kind band) × (1 < qn)
 IsPlace kind s (Inversion band) = HasBand kind 1 band
 IsPlace kind s (SideSign band theta) = HasBand kind 1 band × (size_of kind band ≡ 2)
 IsPlace kind s (Pulses band channel offset n k blocks) =
-    HasBand kind channel band × HasPart (vector_in s channel) offset n × (may_have n k ≡ true) × (are_blocks n blocks ≡ true)
+    HasBand kind channel band × IsOpen s channel band × HasPart (vector_in s channel) offset n × (may_have n k ≡ true) × (are_blocks n blocks ≡ true)
 IsPlace kind s (Sign band channel) = HasBand kind channel band × (size_of kind band ≡ 1)
 IsPlace kind s (Last band channel) = HasBand kind channel band
 IsPlace kind s at = ⊤

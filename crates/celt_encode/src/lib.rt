@@ -27,6 +27,6 @@ mod vectors;
 mod writing;
 
 pub use encoder::Encoder;
-pub use guard_laws::{law_outsets, law_places, law_room, law_wanted};
+pub use guard_laws::{law_entered, law_outsets, law_places, law_room, law_wanted};
 pub use laws::{law_choice, law_code, law_kept, law_nearest};
 pub use listening_laws::{law_listening, law_unit_vectors};

@@ -1,4 +1,4 @@
-use Rattle.celt_encode.proofs.PlaceProper.{coarse_proper, fine_proper, last_proper, skip_proper, pulses_proper, entered_proper}
+use Rattle.celt_encode.proofs.PlaceProper.{coarse_proper, fine_proper, last_proper, skip_proper, pulses_proper, energy_proper}
 use Rattle.celt_encode.proofs.guard_laws.law_wanted.Goals as goal
 
 pub returns-clause-coarse : goal.returns-clause-coarse
@@ -16,5 +16,5 @@ returns-clause-skip c = skip_proper
 pub returns-clause-pulses : goal.returns-clause-pulses
 returns-clause-pulses c = pulses_proper
 
-pub returns-clause-entered : goal.returns-clause-entered
-returns-clause-entered c = entered_proper
+pub returns-clause-energy : goal.returns-clause-energy
+returns-clause-energy c = energy_proper
