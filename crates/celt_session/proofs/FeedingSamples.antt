@@ -85,12 +85,19 @@ lasts fault h = by fault.name h refl where
   by names.BadText h e = absurd h
   by names.TextOverrun h e = absurd h
   by names.TextTruncated h e = absurd h
-  by names.NotBuilt h e = absurd h
 
 pub faulty_now : (bytes : List ℕ) (fault : Fault) → outcome bytes ≡ Faulty fault → fault_now bytes ≡ Some fault
 faulty_now bytes fault e =
     let sound : IsSound (length bytes) (Faulty fault) = subst (IsSound (length bytes)) e (outcome_sound bytes) in
     ap lasting (fault_is bytes (Faulty fault) e) ∙ lasts fault sound
+
+-- a fault that more bytes do not mend is one of the header
+pub faulty_by : (bytes : List ℕ) (fault : Fault) → fault_now bytes ≡ Some fault → outcome bytes ≡ Faulty fault
+faulty_by bytes fault h = by (outcome bytes) refl where
+  by : (o : Outcome) → outcome bytes ≡ o → outcome bytes ≡ Faulty fault
+  by (Unfinished between) e = let never : None ≡ Some fault = sym (sound_before bytes between e) ∙ h in let no : ⊥ = cc in absurd no
+  by (Started channels rate size place) e = let never : None ≡ Some fault = sym (sound_among bytes channels rate place size e) ∙ h in let no : ⊥ = cc in absurd no
+  by (Faulty other) e = let same : Some other ≡ Some fault = sym (faulty_now bytes other e) ∙ h in let is : other ≡ fault = cc in e ∙ ap Faulty is
 
 -- ---- what is given before the samples
 

@@ -331,31 +331,30 @@ module _ {W : Type 0} (w : FrameWorks W) (settings : Settings) (ok : AreSettings
 
   -- ---- a fault that more bytes do not mend
 
-  pub faulty_by : (bytes : List ℕ) (fault : Fault) → fault_now bytes ≡ Some fault → outcome bytes ≡ Faulty fault
-  faulty_by bytes fault h = by (outcome bytes) refl where
-    by : (o : Outcome) → outcome bytes ≡ o → outcome bytes ≡ Faulty fault
-    by (Unfinished between) e = let never : None ≡ Some fault = sym (sound_before bytes between e) ∙ h in let no : ⊥ = cc in absurd no
-    by (Started channels rate size place) e = let never : None ≡ Some fault = sym (sound_among bytes channels rate place size e) ∙ h in let no : ⊥ = cc in absurd no
-    by (Faulty other) e = let same : Some other ≡ Some fault = sym (faulty_now bytes other e) ∙ h in let is : other ≡ fault = cc in e ∙ ap Faulty is
-
   -- its stream is empty, whatever follows
   pub full_faulty : (bytes : List ℕ) (fault : Fault) → outcome bytes ≡ Faulty fault → full w.function settings bytes ≡ []
   unfolding full
   full_faulty bytes fault e = ap (λ (o : Outcome). flat_map spelling (pages_by w.function settings o bytes (is_none (fault_of bytes)))) e
 
-  running_by : (bytes more : List ℕ) (o : Outcome) → outcome bytes ≡ o → (rest : List ℕ) × (full w.function settings (bytes ++ more) ≡ flat_map spelling (pages_by w.function settings o bytes false) ++ rest)
-  unfolding full
-  running_by bytes more (Unfinished between) e = (_, refl)
-  running_by bytes more (Faulty fault) e = (_, refl)
-  running_by bytes more (Started channels rate size place) e =
+  -- ---- more bytes only add pages
+
+  pages_by_front : (bytes more : List ℕ) (ends : Bool) (o : Outcome) → outcome bytes ≡ o
+      → (rest : List ℕ) × (flat_map spelling (pages_by w.function settings (outcome (bytes ++ more)) (bytes ++ more) ends) ≡ flat_map spelling (pages_by w.function settings o bytes false) ++ rest)
+  pages_by_front bytes more ends (Unfinished between) e = (_, refl)
+  pages_by_front bytes more ends (Faulty fault) e = (_, refl)
+  pages_by_front bytes more ends (Started channels rate size place) e =
       let b = begun_at bytes channels rate place size e in
-      let s = running_split (plan_at bytes b) bytes more b (plan_at_is bytes b) (is_none (fault_of (bytes ++ more))) in
+      let s = running_split (plan_at bytes b) bytes more b (plan_at_is bytes b) ends in
       let still = outcome_stays bytes more (ap is_decided b.is) ∙ b.is in (
         s.0,
-        ap (λ (o : Outcome). flat_map spelling (pages_by w.function settings o (bytes ++ more) (is_none (fault_of (bytes ++ more))))) still ∙ s.1
+        ap (λ (o : Outcome). flat_map spelling (pages_by w.function settings o (bytes ++ more) ends)) still ∙ s.1
             ∙ ap (λ (o : Outcome). flat_map spelling (pages_by w.function settings o bytes false) ++ s.0) (sym b.is ∙ e),
       )
 
-  pub running_front : (bytes more : List ℕ) → (rest : List ℕ) × (full w.function settings (bytes ++ more) ≡ running w.function settings bytes ++ rest)
+  pub full_front : (bytes more : List ℕ) → (rest : List ℕ) × (full w.function settings (bytes ++ more) ≡ running w.function settings bytes ++ rest)
+  unfolding full running
+  full_front bytes more = pages_by_front bytes more (is_none (fault_of (bytes ++ more))) (outcome bytes) refl
+
+  pub running_front : (bytes more : List ℕ) → (rest : List ℕ) × (running w.function settings (bytes ++ more) ≡ running w.function settings bytes ++ rest)
   unfolding running
-  running_front bytes more = running_by bytes more (outcome bytes) refl
+  running_front bytes more = pages_by_front bytes more false (outcome bytes) refl

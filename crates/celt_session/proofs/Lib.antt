@@ -1,10 +1,9 @@
 pub mod Beginning
 pub mod Choosing
 pub mod Cutting
-pub mod Encoded
-pub mod EncodedPages
 pub mod EncodedSteps
 pub mod EncoderWorkSteps
+pub mod EncodingLemmas
 pub mod EndOfFile
 pub mod FeedingSamples
 pub mod Finishing
@@ -27,14 +26,10 @@ pub mod PlayingPages
 pub mod Putting
 pub mod Rows
 pub mod Sampling
-pub mod SilentFrame
 pub mod SlotSteps
 pub mod Sounding
 pub mod Starting
 pub mod StreamedFile
-pub mod WaveLemmas
-pub mod WholeInput
-pub mod WholeReads
 pub mod WholeSizes
 pub mod WindowLemmas
-pub mod ZeroSamples
+pub mod WrittenPages

@@ -8,7 +8,7 @@ use Rattle.celt_session.specs.declared.coding.FrameSize.TheVariants.{Samples120,
 use Rattle.celt_session.specs.declared.coding.Bandwidth.{Bandwidth}
 use Rattle.celt_session.specs.declared.coding.Bandwidth.TheVariants.{Narrow, Wide, SuperWide, Full}
 use Rattle.celt_session.specs.Frames.{kind_of, duration}
-use Rattle.celt_session.specs.Encoding.{samples_of, size_number, band_number, size_of, band_of, coding_of, toc_of}
+use Rattle.celt_session.specs.Encoding.{size_number, band_number, size_of, band_of, coding_of, toc_of}
 use Rattle.celt_session.specs.Encodings.{AreSettings}
 
 size_small : (size : FrameSize) → size_number size ≤ 3
@@ -23,17 +23,11 @@ band_small Wide = omega arith
 band_small SuperWide = omega arith
 band_small Full = omega arith
 
-size_samples : (size : FrameSize) → 120 * 2 ^ size_number size ≡ samples_of size
-size_samples Samples120 = refl
-size_samples Samples240 = refl
-size_samples Samples480 = refl
-size_samples Samples960 = refl
-
-frame_samples : (frame : ℕ) → (frame ≡ 120) ⊎ (frame ≡ 240) ⊎ (frame ≡ 480) ⊎ (frame ≡ 960) → samples_of (size_of frame) ≡ frame
-frame_samples frame (inl e) = subst (λ n. samples_of (size_of n) ≡ n) (sym e) refl
-frame_samples frame (inr (inl e)) = subst (λ n. samples_of (size_of n) ≡ n) (sym e) refl
-frame_samples frame (inr (inr (inl e))) = subst (λ n. samples_of (size_of n) ≡ n) (sym e) refl
-frame_samples frame (inr (inr (inr e))) = subst (λ n. samples_of (size_of n) ≡ n) (sym e) refl
+frame_samples : (frame : ℕ) → (frame ≡ 120) ⊎ (frame ≡ 240) ⊎ (frame ≡ 480) ⊎ (frame ≡ 960) → 120 * 2 ^ size_number (size_of frame) ≡ frame
+frame_samples frame (inl e) = subst (λ n. 120 * 2 ^ size_number (size_of n) ≡ n) (sym e) refl
+frame_samples frame (inr (inl e)) = subst (λ n. 120 * 2 ^ size_number (size_of n) ≡ n) (sym e) refl
+frame_samples frame (inr (inr (inl e))) = subst (λ n. 120 * 2 ^ size_number (size_of n) ≡ n) (sym e) refl
+frame_samples frame (inr (inr (inr e))) = subst (λ n. 120 * 2 ^ size_number (size_of n) ≡ n) (sym e) refl
 
 -- the parts of the first byte of a packet
 pub record IsToc (toc size channels : ℕ) : Type 0 where
@@ -60,7 +54,7 @@ kind_channels toc = refl
 -- the samples of a frame are those that were asked for
 pub duration_for : (settings : Settings) (channels : ℕ) → AreSettings settings → (channels ≡ 1) ⊎ (channels ≡ 2) → duration (kind_of (toc_of (coding_of settings) channels)) ≡ settings.frame
 duration_for settings channels h c =
-    ap (λ n. 120 * 2 ^ n) (kind_lm (toc_of (coding_of settings) channels) ∙ (toc_is settings channels c).lm) ∙ size_samples (size_of settings.frame) ∙ frame_samples settings.frame h.frame
+    ap (λ n. 120 * 2 ^ n) (kind_lm (toc_of (coding_of settings) channels) ∙ (toc_is settings channels c).lm) ∙ frame_samples settings.frame h.frame
 
 least_frame : (frame : ℕ) → (frame ≡ 120) ⊎ (frame ≡ 240) ⊎ (frame ≡ 480) ⊎ (frame ≡ 960) → 120 ≤ frame
 least_frame frame (inl e) = omega arith

@@ -21,9 +21,9 @@ use Rattle.celt_session.specs.Outcomes.{Meaning, is_early_end, ended_status, cut
 use Rattle.celt_session.specs.Encodings.{AreSettings, fault_of, full, running, encoding_by}
 use Rattle.celt_session.specs.FrameWorks.{FrameWorks}
 use Rattle.celt_session.specs.FrameSessions.{given, given_more, full_more, running_more, lasting, fault_now, Ends, status_of}
-use Rattle.celt_session.proofs.FeedingSamples.{fault_is}
+use Rattle.celt_session.proofs.FeedingSamples.{fault_is, faulty_by}
 use Rattle.celt_session.proofs.Finishing.{known, known_end, front_taken, first_is, cut_len, over_len, within_len}
-use Rattle.celt_session.proofs.GivenLaws.{full_joins, running_joins, running_front, given_joins, faulty_by, full_faulty}
+use Rattle.celt_session.proofs.GivenLaws.{full_joins, running_joins, full_front, given_joins, full_faulty}
 
 -- ---- the status
 
@@ -64,7 +64,7 @@ module _ {W : Type 0} (w : FrameWorks W) (settings : Settings) (ok : AreSettings
   -- a fault stays
   fault_stays : (now more : List ℕ) (fault : Fault) → fault_now now ≡ Some fault → (fault_of (now ++ more) ≡ Some fault) × (full w.function settings (now ++ more) ≡ [])
   fault_stays now more fault h =
-      let e = faulty_by w settings ok now fault h in
+      let e = faulty_by now fault h in
       let still : outcome (now ++ more) ≡ Faulty fault = outcome_stays now more (ap is_decided e) ∙ e in
       (fault_is (now ++ more) (Faulty fault) still, full_faulty w settings ok (now ++ more) fault still)
 
@@ -174,5 +174,5 @@ module _ {W : Type 0} (w : FrameWorks W) (settings : Settings) (ok : AreSettings
         let all_given = given_twice taken piece before between after a b in
         let front : AppendsFront before last (running w.function settings now) = subst (AppendsFront before last) (sym (running_joins w settings ok now)) (then_front before after last (given w.function settings now) (running_more w.function settings now) all_given c) in
         known old mid new taken read left (λ xs. AppendsFront before last (full w.function settings xs)) first second
-        (λ zs. let r = running_front w settings ok (taken ++ take left read) (drop left read ++ zs) in
+        (λ zs. let r = full_front w settings ok (taken ++ take left read) (drop left read ++ zs) in
         subst (AppendsFront before last) (sym r.1) (longer_front before last (running w.function settings (taken ++ take left read)) r.0 (subst (λ l. AppendsFront before last (running w.function settings (taken ++ l))) piece_is front)))

@@ -45,13 +45,17 @@ last_packet c n = (frame_count c n - 1) / c.group
 abbrev pub last_page : Coded → ℕ → Page
 last_page c n = page_of c 4 (120 + n) (last_packet c n) (frame_count c n - last_packet c n * c.group)
 
+-- How many packets are full and end within the first q samples per channel.
+abbrev pub settled_packets : Coded → ℕ → ℕ
+settled_packets c q = q / (c.group * duration (kind_in c))
+
 -- The audio pages of n samples per channel that end here, and those of the full packets that end within the first q of them, which no
 -- later sample changes.
 abbrev pub ended_pages : Coded → ℕ → List Page
 ended_pages c n = packets_from c 0 (last_packet c n) ++ last_page c n ∷ []
 
 abbrev pub settled_pages : Coded → ℕ → List Page
-settled_pages c q = packets_from c 0 (q / (c.group * duration (kind_in c)))
+settled_pages c q = packets_from c 0 (settled_packets c q)
 
 -- all pages
 abbrev pub with_headers : Coded → List Page → List Page

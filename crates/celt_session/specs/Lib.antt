@@ -23,10 +23,8 @@ pub mod PageWorks
 pub mod Pages
 pub mod Players
 pub mod Playing
-pub mod Reads
 pub mod Samples
 pub mod Sessions
 pub mod Texts
-pub mod Waves
 pub mod Windows
 pub mod Works

@@ -77,7 +77,7 @@ Writes m limit bytes left old new statuses.ReadFault = AddsTaken m bytes left ol
 Writes m limit bytes left old new statuses.WriteFault = AppendsFront old new (m.full bytes)
 Writes m limit bytes left old new statuses.NoMemory = Keeps old new
 
--- ---- an input that is read whole before anything is written
+-- ---- a work that may hold back what the bytes so far give
 
 -- what was added to the output; a front of it where something failed
 abbrev pub WritesFront : Meaning → ℕ → List ℕ → Option (List ℕ) → Option (List ℕ) → Status → Type 0
@@ -88,18 +88,3 @@ WritesFront m limit bytes old new statuses.Usage = ⊥
 WritesFront m limit bytes old new statuses.ReadFault = AppendsFront old new (m.full bytes)
 WritesFront m limit bytes old new statuses.WriteFault = AppendsFront old new (m.full bytes)
 WritesFront m limit bytes old new statuses.NoMemory = AppendsFront old new (m.full bytes)
-
--- what is written of the first bytes of an input, which goes on behind them or does not
-abbrev pub written : Meaning → Bool → List ℕ → List ℕ
-written m true first = m.running first
-written m false first = m.full first
-
--- all of it was added to the output, or a front where something failed
-abbrev pub AddsAll : List ℕ → Option (List ℕ) → Option (List ℕ) → Status → Type 0
-AddsAll bytes old new statuses.Done = Appends old new bytes
-AddsAll bytes old new (statuses.Refused fault) = Appends old new bytes
-AddsAll bytes old new statuses.InputTooLong = Appends old new bytes
-AddsAll bytes old new statuses.Usage = AppendsFront old new bytes
-AddsAll bytes old new statuses.ReadFault = AppendsFront old new bytes
-AddsAll bytes old new statuses.WriteFault = AppendsFront old new bytes
-AddsAll bytes old new statuses.NoMemory = AppendsFront old new bytes

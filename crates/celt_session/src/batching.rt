@@ -10,7 +10,7 @@ ghost use Rattle.celt_session.specs.Framers.{HasFramerRooms};
 use crate::batch::Batch;
 use crate::encoder_pair::EncoderPair;
 use crate::framer::Framer;
-use crate::reading::zero_bytes;
+use crate::memory::zero_bytes;
 use celt_base::kind::Kind;
 use celt_base::outside::Gate;
 use celt_base::status::OutOfMemory;

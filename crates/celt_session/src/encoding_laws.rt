@@ -1,49 +1,40 @@
 //! Laws of the written encoding, over its definitions alone. No body does anything.
-ghost use Rattle.std.specs.Prelude.{◌≡◌, ◌≤◌, ◌<◌, ◌+◌, ◌*◌, ◌-◌, ◌/◌, ◌↔◌, ℕ, List, [], ◌∷◌, ◌++◌, length, map, take, Some, false};
+ghost use Rattle.std.specs.Prelude.{◌≡◌, ◌≤◌, ◌<◌, ◌+◌, ◌*◌, ◌-◌, ◌↔◌, ℕ, List, [], ◌++◌, length, take, Some, false};
 ghost use Rattle.celt_base.specs.declared.status.Fault.{Fault};
-ghost use Rattle.celt_base.specs.declared.question.Question.TheVariants.{Bit};
-ghost use Rattle.celt_base.specs.Intervals.{whole};
-ghost use Rattle.celt_base.specs.Questions.{Answered};
-ghost use Rattle.range_coder.specs.Reading.{AnswersFrom};
-ghost use Rattle.range_coder.specs.Codes.{IsCode};
-ghost use Rattle.celt_session.specs.declared.coding.FrameSize.{FrameSize};
-ghost use Rattle.celt_session.specs.declared.coding.Coding.{Coding};
-ghost use Rattle.celt_session.specs.Waves.{fault_of as wave_fault};
-ghost use Rattle.celt_session.specs.Encoding.{samples_of, frames_of, says_silence, silent_frame, full as full_stream, running as running_stream};
+ghost use Rattle.celt_session.specs.declared.settings.Settings.{Settings};
+ghost use Rattle.celt_session.specs.Frames.{duration};
+ghost use Rattle.celt_session.specs.AudioPages.{Coded, kind_in, frame_count, last_packet, settled_packets};
+ghost use Rattle.celt_session.specs.Encodings.{AreSettings, fault_of, full, running};
+ghost use Rattle.celt_session.specs.EncodedFrames.{encoded_frames};
 ghost use Rattle.celt_session.specs.Outcomes.{is_early_end};
 
-/// A fault of a WAV file that is not one of its end stays whatever bytes follow, and so does the stream.
+/// A fault of a WAV file that is not one of its end stays whatever bytes follow, and nothing is written of the file.
 pub fn law_wave_fault_stays()
-    ensures fault { (bytes more : List ℕ) (fault : Fault) → wave_fault bytes ≡ Some fault → is_early_end fault.name ≡ false
-        → wave_fault (bytes ++ more) ≡ Some fault }
-    ensures stream { (coding : Coding) (bytes more : List ℕ) (fault : Fault) → wave_fault bytes ≡ Some fault
-        → is_early_end fault.name ≡ false → full_stream coding (bytes ++ more) ≡ full_stream coding bytes }
+    ensures fault { (bytes more : List ℕ) (fault : Fault) → fault_of bytes ≡ Some fault → is_early_end fault.name ≡ false
+        → fault_of (bytes ++ more) ≡ Some fault }
+    ensures full { (settings : Settings) (bytes more : List ℕ) (fault : Fault) → fault_of bytes ≡ Some fault
+        → is_early_end fault.name ≡ false → full encoded_frames settings (bytes ++ more) ≡ [] }
+    ensures running { (settings : Settings) (bytes more : List ℕ) (fault : Fault) → fault_of bytes ≡ Some fault
+        → is_early_end fault.name ≡ false → running encoded_frames settings (bytes ++ more) ≡ [] }
 {}
 
-/// The stream of the front of a WAV file begins that of the file, at its end and before.
+/// What is written of a list of bytes before its end begins what is written of each list that begins with it, before
+/// its end and at its end.
 pub fn law_stream_goes_on()
-    ensures at_end { (coding : Coding) (bytes more : List ℕ)
-        → take (length (running_stream coding bytes)) (full_stream coding (bytes ++ more)) ≡ running_stream coding bytes }
-    ensures before { (coding : Coding) (bytes more : List ℕ)
-        → take (length (running_stream coding bytes)) (running_stream coding (bytes ++ more)) ≡ running_stream coding bytes }
+    ensures before { (settings : Settings) (bytes more : List ℕ) → AreSettings settings
+        → take (length (running encoded_frames settings bytes)) (running encoded_frames settings (bytes ++ more)) ≡ running encoded_frames settings bytes }
+    ensures at_end { (settings : Settings) (bytes more : List ℕ) → AreSettings settings
+        → take (length (running encoded_frames settings bytes)) (full encoded_frames settings (bytes ++ more)) ≡ running encoded_frames settings bytes }
 {}
 
-/// The silent frame of each length is the code of the one answer that says silence, and no other frame
-/// is. Its reading is just this answer (RFC 6716, sections 4.1 and 5.1).
-pub fn law_silent_frame()
-    ensures len { (len : ℕ) → 2 ≤ len → length (silent_frame len) ≡ len }
-    ensures code { (len : ℕ) → 2 ≤ len → IsCode (says_silence ∷ []) len (silent_frame len) }
-    ensures one { (len : ℕ) (frame : List ℕ) → 2 ≤ len → IsCode (says_silence ∷ []) len frame → frame ≡ silent_frame len }
-    ensures read { (len : ℕ) → 2 ≤ len → AnswersFrom (silent_frame len) whole (says_silence ∷ []) }
-    ensures only { (len : ℕ) (list : List Answered) → 2 ≤ len → map (λ a. a.question) list ≡ Bit 15 ∷ []
-        → AnswersFrom (silent_frame len) whole list → list ≡ says_silence ∷ [] }
-{}
-
-/// The frames of a stream that ends are the fewest that hold its groups and the 120 samples that the
-/// decoder drops; those that are written before are the ones that end within the groups.
+/// The frames of a stream that ends are the fewest that hold its samples per channel and the 120 that a decoder drops.
+/// Its last packet has the frames behind those of full packets, and one at least. The packets that are written before
+/// the end are those that are full and end within the samples.
 pub fn law_frames()
-    ensures enough { (size : FrameSize) (groups : ℕ) → 120 + groups ≤ frames_of (samples_of size) groups * samples_of size }
-    ensures fewest { (size : FrameSize) (groups : ℕ) → (frames_of (samples_of size) groups - 1) * samples_of size < 120 + groups }
-    ensures within { (size : FrameSize) (groups number : ℕ)
-        → (number < groups / samples_of size) ↔ ((number + 1) * samples_of size ≤ groups) }
+    ensures enough { (c : Coded) (n : ℕ) → 120 + n ≤ frame_count c n * duration (kind_in c) }
+    ensures fewest { (c : Coded) (n : ℕ) → (frame_count c n - 1) * duration (kind_in c) < 120 + n }
+    ensures last { (c : Coded) (n : ℕ) → 1 ≤ c.group
+        → (last_packet c n * c.group < frame_count c n) × (frame_count c n ≤ (last_packet c n + 1) * c.group) }
+    ensures within { (c : Coded) (n p : ℕ) → 1 ≤ c.group
+        → (p < settled_packets c n) ↔ ((p + 1) * (c.group * duration (kind_in c)) ≤ n) }
 {}

@@ -7,11 +7,11 @@ ghost use Rattle.celt_session.specs.FrameFunctions.{frames_from};
 ghost use Rattle.celt_session.specs.AudioPages.{page_of};
 ghost use Rattle.celt_session.specs.Packers.{HasRooms, Packs, AreLong, coded_by, Packed, FailsBefore};
 
-use crate::encoding::write_frame;
+use crate::memory::zero_bytes;
 use crate::packer::Packer;
 use crate::packing::pack_frames;
+use crate::page_writer::write_audio;
 use crate::plan::Plan;
-use crate::reading::zero_bytes;
 use celt_base::outside::{Failed, Sink};
 use celt_base::status::OutOfMemory;
 use std::alloc::Global;
@@ -67,7 +67,7 @@ pub(crate) fn write_packet<K: Sink>(
     let (frames, _) = packer.frames.split_at(count * plan.bytes);
     let len = pack_frames(plan.toc, frames, count, &mut packer.packet);
     let (packet, _) = packer.packet.split_at(len);
-    write_frame(flags, granule, number, packet, &mut packer.page, output)
+    write_audio(flags, granule, number, packet, &mut packer.page, output)
 }
 
 /// Writes the page of the packet that is being filled where it is full.

@@ -5,8 +5,7 @@ ghost use Rattle.celt_session.specs.Encoding.{coding_of as coding_for, toc_of};
 ghost use Rattle.celt_session.specs.Encodings.{AreSettings};
 
 use crate::batching::samples_in;
-use crate::coding::toc;
-use crate::encode::coding_of;
+use crate::coding::{coding_of, toc};
 use crate::lines::end_of;
 use crate::plan::Plan;
 use crate::settings::Settings;

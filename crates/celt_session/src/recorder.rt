@@ -11,15 +11,28 @@ ghost use Rattle.celt_session.specs.FrameSessions.{IsNew, IsTaking, MakesBoth, l
 
 use crate::batching::fill_up;
 use crate::encoder_pair::EncoderPair;
-use crate::encoding::write_headers;
 use crate::maker::Maker;
 use crate::making::{held_len, take_samples};
+use crate::page_writer::write_headers;
 use crate::planning::plan_of;
 use crate::recording::Recording;
 use crate::settings::Settings;
-use crate::wave::within_size;
 use celt_base::outside::{Failed, Gate, Sink};
 use std::thread::Threads;
+
+/// The bytes of the samples: those of the declared size, or all.
+fn within_size(size: Option<u64>, bytes: &[u8]) -> &[u8]
+    ensures { result.now ≡ kept_within size bytes.now }
+{
+    let Some(size) = size else {
+        return bytes;
+    };
+    if bytes.len() as u64 <= size {
+        return bytes;
+    }
+    let (first, _) = bytes.split_at(size as usize);
+    first
+}
 
 /// What is left once so many bytes came.
 fn left_behind(left: Option<u64>, count: usize) -> Option<u64>

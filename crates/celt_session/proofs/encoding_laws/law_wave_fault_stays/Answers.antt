@@ -1,8 +1,11 @@
-use Rattle.celt_session.proofs.Encoded.{stays, stream_stays}
+use Rattle.celt_session.proofs.EncodingLemmas.{fault_stays, full_broken, running_broken}
 use Rattle.celt_session.proofs.encoding_laws.law_wave_fault_stays.Goals as goal
 
 pub returns-clause-fault : goal.returns-clause-fault
-returns-clause-fault c = λ bytes more fault h n. (stays bytes more fault h n).fault_is
+returns-clause-fault c = fault_stays
 
-pub returns-clause-stream : goal.returns-clause-stream
-returns-clause-stream c = stream_stays
+pub returns-clause-full : goal.returns-clause-full
+returns-clause-full c = full_broken
+
+pub returns-clause-running : goal.returns-clause-running
+returns-clause-running c = running_broken

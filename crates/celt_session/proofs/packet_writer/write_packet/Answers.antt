@@ -27,4 +27,4 @@ returns-clause-page g c = λ frame done long h.
     c.split_at-2.ensures.front ∙ ap (take c.pack_frames-len.result) (c.deref-2.ensures.value ∙ lent_whole old.packet c.pack_frames-len.new.out (c.pack_frames-len.ensures.room ∙ ap length c.deref_mut.ensures.value)) ∙ c.pack_frames-len.ensures.packet
     ∙ ap (λ l. packet_of p.toc (equal_parts old.count l)) (c.split_at.ensures.front ∙ ap (take (old.count * p.bytes)) c.deref.ensures.value ∙ h.frames)
     ∙ ap (packet_of p.toc) (frames-parts frame p.bytes long (old.packets * p.group) old.count c.requires.some) in
-    subst (λ l. WritesAll (g.K.Sink.held c.args.output.now) (g.K.Sink.held c.write_frame.new.output) c.write_frame.result (spelling (audio_page l c.args.flags c.args.granule old.packets))) packet c.write_frame.ensures.bytes
+    subst (λ l. WritesAll (g.K.Sink.held c.args.output.now) (g.K.Sink.held c.write_audio.new.output) c.write_audio.result (spelling (audio_page l c.args.flags c.args.granule old.packets))) packet c.write_audio.ensures.bytes

@@ -4,8 +4,8 @@ use Rattle.celt_base.specs.Outside.{AppendsFront, WritesAll}
 use Rattle.std.specs.Io.KnownBytes.{Appends}
 use Rattle.celt_base.proofs.Causes.{longer_front}
 use Rattle.celt_session.specs.Encoding.{head_page, tags_page}
-use Rattle.celt_session.proofs.EncodedPages.{writes_then}
-use Rattle.celt_session.proofs.encoding.write_headers.Goals as goal
+use Rattle.celt_session.proofs.WrittenPages.{writes_then}
+use Rattle.celt_session.proofs.page_writer.write_headers.Goals as goal
 
 pub returns-in_default-clause-bytes : goal.returns-in_default-clause-bytes
 returns-in_default-clause-bytes g c =
