@@ -172,9 +172,6 @@ pub record Emptied (kind : Kind) (slots : List WindowSlot) (i : ℕ) : Type 0 wh
   pub count : length slots ≡ i
   pub windows : AreWindows kind slots
 
-pub emptied_none : (kind : Kind) → Emptied kind [] 0
-emptied_none kind = record { count = refl; windows = λ k d less. absurd (omega arith) }
-
 pub emptied_more : (kind : Kind) (slots : List WindowSlot) (slot : WindowSlot) (i : ℕ) → IsWindow kind slot → Emptied kind slots i → Emptied kind (slots ++ slot ∷ []) (i + 1)
 emptied_more kind slots slot i is e = record {
   count = let l = length-append slots (slot ∷ []) in let c = e.count in omega (arith, l, c);

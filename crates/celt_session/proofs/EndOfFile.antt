@@ -30,8 +30,8 @@ use Rattle.celt_session.specs.Packers.{coded_by, pages_text}
 use Rattle.celt_session.specs.Makers.{group_bytes, plan_frame, GoesOn, settled_for, frames_for, last_for, ending_text}
 use Rattle.celt_session.specs.FrameSessions.{given, full_more, running_more, is_complete, left_of, AmongSamples}
 use Rattle.celt_session.proofs.WindowLemmas.{held-len}
-use Rattle.celt_session.proofs.GivenPages.{IsPlanOf, headers_for, packets_for, packets_made, given_text, coded_is, count_is, kind_channels_are, headers_are}
-use Rattle.celt_session.proofs.FeedingSamples.{fault_is, given_none, plan_of, has_begun, text_from}
+use Rattle.celt_session.proofs.GivenPages.{IsPlanOf, headers_for, packets_for, packets_made, given_begins, all_ended, all_settled, kind_channels_are}
+use Rattle.celt_session.proofs.FeedingSamples.{fault_is, given_none, plan_of, has_begun}
 use Rattle.std.proofs.lemmas.Nat.{le-div}
 use Rattle.celt_session.proofs.MakerLemmas.{plan_sizes}
 use Rattle.celt_session.proofs.LastFrames.{IsRest, rest_of, settled_is, frames_are, least_last}
@@ -128,49 +128,12 @@ module _ {W : Type 0} (w : FrameWorks W) (settings : Settings) (r : Recording) (
   abbrev frame : ℕ → List ℕ
   frame = plan_frame w.function r.plan heard
 
-  abbrev audio : Audio
-  audio = audio_of settings h.channels bytes
-
-  frame_size : plan.samples ≡ duration (kind_of plan.toc)
-  frame_size = plan.samples_is ∙ ap duration plan.kind_is
-
-  given_first : given w.function settings bytes ≡ headers_for h.channels ++ pages_text plan frame 0 (packets_for plan heard)
-  given_first = given_text w.function plan settings h.channels heard bytes plan_is h.size h.place h.begun
-
-  -- the pages of the file behind those of the headers
-  abbrev ended_by : ℕ → ℕ → List Page
-  ended_by n samples =
-      let c = coded_by plan frame in
-      let count = (120 + n + samples - 1) / samples in
-      packets_from c 0 ((count - 1) / plan.group) ++ page_of c 4 (120 + n) ((count - 1) / plan.group) (count - (count - 1) / plan.group * plan.group) ∷ []
-
-  ended_text : flat_map spelling (ended_pages (coded w.function audio) (sample_count audio)) ≡ pages_text plan frame 0 ((frames_for plan heard - 1) / plan.group) ++ spelling (last_for frame plan heard)
-  ended_text =
-      ap (λ c. flat_map spelling (ended_pages c (sample_count audio))) (sym (coded_is w.function plan settings h.channels heard bytes plan_is))
-      ∙ ap (λ n. flat_map spelling (ended_pages (coded_by plan frame) n)) (count_is w.function plan settings h.channels heard bytes plan_is)
-      ∙ ap (λ n. flat_map spelling (ended_by (length heard / 2 / plan.kind.channels) n)) (sym frame_size)
-      ∙ flat_map-append spelling (packets_from (coded_by plan frame) 0 ((frames_for plan heard - 1) / plan.group)) (last_for frame plan heard ∷ [])
-      ∙ ap (λ l. pages_text plan frame 0 ((frames_for plan heard - 1) / plan.group) ++ l) (append-nil (spelling (last_for frame plan heard)))
-
-  settled_text : flat_map spelling (settled_pages (coded w.function audio) (sample_count audio)) ≡ pages_text plan frame 0 (settled_for plan heard)
-  settled_text =
-      ap (λ c. flat_map spelling (settled_pages c (sample_count audio))) (sym (coded_is w.function plan settings h.channels heard bytes plan_is))
-      ∙ ap (λ n. flat_map spelling (settled_pages (coded_by plan frame) n)) (count_is w.function plan settings h.channels heard bytes plan_is)
-      ∙ ap (λ n. pages_text plan frame 0 (length heard / 2 / plan.kind.channels / (plan.group * n))) (sym frame_size)
-
-  with_first : (pages : List Page) → flat_map spelling (with_headers (coded w.function audio) pages) ≡ headers_for h.channels ++ flat_map spelling pages
-  with_first pages = headers_are w.function plan settings h.channels heard bytes plan_is (coded w.function audio) pages (kind_channels_are w.function plan settings h.channels heard bytes plan_is)
-
   -- what follows the pages that were given
   behind : (all text : List ℕ) (packets : ℕ) → all ≡ headers_for h.channels ++ (pages_text plan frame 0 packets ++ text) → packets_for plan heard ≤ packets
       → drop (length (given w.function settings bytes)) all ≡ pages_text plan frame (packets_for plan heard) (packets - packets_for plan heard) ++ text
   behind all text packets e ahead =
-      let p = packets_for plan heard in
-      let rest = pages_text plan frame p (packets - p) ++ text in
-      let split : all ≡ given w.function settings bytes ++ rest =
-      e ∙ ap (λ l. headers_for h.channels ++ (l ++ text)) (text_from plan frame p packets ahead) ∙ ap (λ l. headers_for h.channels ++ l) (append_assoc (pages_text plan frame 0 p) (pages_text plan frame p (packets - p)) text)
-      ∙ sym (append_assoc (headers_for h.channels) (pages_text plan frame 0 p) rest) ∙ ap (λ l. l ++ rest) (sym given_first) in
-      ap (drop (length (given w.function settings bytes))) split ∙ drop-append_seam (given w.function settings bytes) rest
+      ap (drop (length (given w.function settings bytes))) (given_begins w.function plan settings h.channels heard bytes plan_is h.size h.place h.begun all text packets e ahead)
+      ∙ drop-append_seam (given w.function settings bytes) (pages_text plan frame (packets_for plan heard) (packets - packets_for plan heard) ++ text)
 
   module _ (going : GoesOn r.plan m) where
     made_is : packets_for plan heard ≡ m.packer.packets
@@ -193,7 +156,7 @@ module _ {W : Type 0} (w : FrameWorks W) (settings : Settings) (r : Recording) (
         let all : flat_map spelling (pages_by w.function settings (outcome bytes) bytes (is_none (fault_of bytes))) ≡ headers_for h.channels ++ (pages_text plan frame 0 last ++ spelling (last_for frame plan heard)) =
         ap (λ (x : Outcome). flat_map spelling (pages_by w.function settings x bytes (is_none (fault_of bytes)))) h.begun
         ∙ ap (λ (x : Option Fault). flat_map spelling (pages_by w.function settings o bytes (is_none x))) none
-        ∙ with_first (ended_pages (coded w.function audio) (sample_count audio)) ∙ ap (λ l. headers_for h.channels ++ l) ended_text in
+        ∙ all_ended w.function plan settings h.channels heard bytes plan_is h.size h.place in
         behind _ (spelling (last_for frame plan heard)) last all (subst (λ n. n ≤ last) (sym made_is) ahead)
         ∙ ap (λ n. pages_text plan frame n (last - n) ++ spelling (last_for frame plan heard)) made_is
 
@@ -208,7 +171,9 @@ module _ {W : Type 0} (w : FrameWorks W) (settings : Settings) (r : Recording) (
     settled_behind : (all : List ℕ) → all ≡ flat_map spelling (pages_by w.function settings (Started h.channels 48000 h.size h.place) bytes false)
         → drop (length (given w.function settings bytes)) all ≡ pages_text plan frame m.packer.packets (settled_for plan heard - m.packer.packets)
     settled_behind all e =
-        let text = e ∙ with_first (settled_pages (coded w.function audio) (sample_count audio)) ∙ ap (λ l. headers_for h.channels ++ l) (settled_text ∙ sym (append-nil (pages_text plan frame 0 (settled_for plan heard)))) in
+        let text =
+        e ∙ all_settled w.function plan settings h.channels heard bytes plan_is h.size h.place
+        ∙ ap (λ l. headers_for h.channels ++ l) (sym (append-nil (pages_text plan frame 0 (settled_for plan heard)))) in
         behind all [] (settled_for plan heard) text (subst (λ n. n ≤ settled_for plan heard) (sym made_is) settled_ahead)
         ∙ append-nil (pages_text plan frame (packets_for plan heard) (settled_for plan heard - packets_for plan heard))
         ∙ ap (λ n. pages_text plan frame n (settled_for plan heard - n)) made_is

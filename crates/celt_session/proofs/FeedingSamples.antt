@@ -36,7 +36,7 @@ use Rattle.celt_session.specs.Frames.{kind_of}
 use Rattle.celt_session.specs.AudioPages.{packets_from}
 use Rattle.celt_session.specs.FrameSessions.{given_packets, given_by, given, given_more, lasting, fault_now, left_of, AmongSamples, BeforeSamples, StandsBy, StandsFor, IsBegun}
 use Rattle.celt_session.proofs.Planned.{toc_is, kind_channels}
-use Rattle.celt_session.proofs.PacketLemmas.{text-join, text-between, text-same}
+use Rattle.celt_session.proofs.PacketLemmas.{text-between, text_from, text-same}
 use Rattle.celt_session.proofs.MakerLemmas.{frame_longer}
 use Rattle.celt_session.proofs.GivenPages.{IsPlanOf, headers_for, packets_for, given_text, packets_made, packets_least, more_is}
 
@@ -160,12 +160,6 @@ has_begun bytes channels rate place size e =
 
 -- ---- the text of more bytes
 
-pub text_from : (plan : Plan) (frame : ℕ → List ℕ) (p q : ℕ) → p ≤ q → pages_text plan frame 0 q ≡ pages_text plan frame 0 p ++ pages_text plan frame p (q - p)
-text_from plan frame p q h =
-    let e : q ≡ p + (q - p) = omega arith in
-    let none : 0 + p ≡ p = omega arith in
-    ap (pages_text plan frame 0) e ∙ text-join plan frame 0 p (q - p) ∙ ap (λ n. pages_text plan frame 0 p ++ pages_text plan frame n (q - p)) none
-
 -- the first pages stay
 pub text_stays : (f : FrameFunction) (plan : Plan) (heard more : List ℕ) (done p : ℕ) → group_bytes plan.kind.channels (done * plan.samples) ≤ length heard → p * plan.group ≤ done
     → pages_text plan (plan_frame f plan (heard ++ more)) 0 p ≡ pages_text plan (plan_frame f plan heard) 0 p
@@ -249,10 +243,6 @@ module _ {W : Type 0} (w : FrameWorks W) (settings : Settings) (plan : Plan) (ch
       (then_front old mid new (headers_for channels) (pages_text plan frame 0 all) a
       (subst (AppendsFront mid new) (sym (text_from plan frame t.wrote.until all most))
       (longer_front mid new (pages_text plan frame 0 t.wrote.until) (pages_text plan frame t.wrote.until (all - t.wrote.until)) text)))
-
-  pub first_headers : (old new : Option (List ℕ)) → AppendsFront old new (headers_for channels) → AppendsFront old new (given_more w.function settings bytes now)
-  first_headers old new a =
-      subst (AppendsFront old new) (sym first_text) (longer_front old new (headers_for channels) (pages_text plan (plan_frame w.function plan heard) 0 (packets_for plan heard)) a)
 
 -- ---- what a session stands for
 

@@ -27,9 +27,10 @@ use Rattle.celt_session.specs.Makers.{group_bytes, plan_frame, settled_for, fram
 use Rattle.celt_session.specs.FrameSessions.{given, given_more, full_more, running_more, left_of, fault_now, lasting}
 use Rattle.celt_session.proofs.Planned.{toc_is, duration_for, few_frames}
 use Rattle.celt_session.proofs.MakerLemmas.{plan_sizes}
+use Rattle.celt_session.proofs.PacketLemmas.{text_from}
 use Rattle.celt_session.proofs.LastFrames.{settled_is}
-use Rattle.celt_session.proofs.GivenPages.{IsPlanOf, headers_for, packets_for, given_text, coded_is, count_is, kind_channels_are, headers_are, least_packets, frames_within}
-use Rattle.celt_session.proofs.FeedingSamples.{GoOn, given_split, given_is, given_none, given_faulty, taken_bytes, samples_are, has_begun, text_from, text_stays, sound_before, sound_among, faulty_now}
+use Rattle.celt_session.proofs.GivenPages.{IsPlanOf, headers_for, packets_for, given_begins, all_ended, all_settled, least_packets, frames_within}
+use Rattle.celt_session.proofs.FeedingSamples.{GoOn, given_split, given_is, given_none, given_faulty, taken_bytes, samples_are, has_begun, text_stays}
 
 -- the plan of the settings
 plan_for : (settings : Settings) (channels : ℕ) → AreSettings settings → (channels ≡ 1) ⊎ (channels ≡ 2) → Plan
@@ -81,36 +82,8 @@ module _ {W : Type 0} (w : FrameWorks W) (settings : Settings) (ok : AreSettings
     abbrev heard : List ℕ
     heard = within_size b.size (drop b.place bytes)
 
-    abbrev audio : Audio
-    audio = audio_of settings b.channels bytes
-
     abbrev frame : ℕ → List ℕ
     frame = plan_frame w.function plan heard
-
-    frame_size : plan.samples ≡ duration (kind_of plan.toc)
-    frame_size = plan.samples_is ∙ ap duration plan.kind_is
-
-    abbrev ended_by : ℕ → ℕ → List Page
-    ended_by n samples =
-        let c = coded_by plan frame in
-        let count = (120 + n + samples - 1) / samples in
-        packets_from c 0 ((count - 1) / plan.group) ++ page_of c 4 (120 + n) ((count - 1) / plan.group) (count - (count - 1) / plan.group * plan.group) ∷ []
-
-    ended_text : flat_map spelling (ended_pages (coded w.function audio) (sample_count audio)) ≡ pages_text plan frame 0 ((frames_for plan heard - 1) / plan.group) ++ flat_map spelling (last_for frame plan heard ∷ [])
-    ended_text =
-        ap (λ c. flat_map spelling (ended_pages c (sample_count audio))) (sym (coded_is w.function plan settings b.channels heard bytes plan_is))
-        ∙ ap (λ n. flat_map spelling (ended_pages (coded_by plan frame) n)) (count_is w.function plan settings b.channels heard bytes plan_is)
-        ∙ ap (λ n. flat_map spelling (ended_by (length heard / 2 / plan.kind.channels) n)) (sym frame_size)
-        ∙ flat_map-append spelling (packets_from (coded_by plan frame) 0 ((frames_for plan heard - 1) / plan.group)) (last_for frame plan heard ∷ [])
-
-    settled_text : flat_map spelling (settled_pages (coded w.function audio) (sample_count audio)) ≡ pages_text plan frame 0 (settled_for plan heard)
-    settled_text =
-        ap (λ c. flat_map spelling (settled_pages c (sample_count audio))) (sym (coded_is w.function plan settings b.channels heard bytes plan_is))
-        ∙ ap (λ n. flat_map spelling (settled_pages (coded_by plan frame) n)) (count_is w.function plan settings b.channels heard bytes plan_is)
-        ∙ ap (λ n. pages_text plan frame 0 (length heard / 2 / plan.kind.channels / (plan.group * n))) (sym frame_size)
-
-    with_first : (pages : List Page) → flat_map spelling (with_headers (coded w.function audio) pages) ≡ headers_for b.channels ++ flat_map spelling pages
-    with_first pages = headers_are w.function plan settings b.channels heard bytes plan_is (coded w.function audio) pages (kind_channels_are w.function plan settings b.channels heard bytes plan_is)
 
     -- the packets that are given are among all
     abbrev whole : ℕ
@@ -140,21 +113,18 @@ module _ {W : Type 0} (w : FrameWorks W) (settings : Settings) (ok : AreSettings
         le-div (packets_for plan heard) (frames_for plan heard - 1) plan.group (omega arith) (omega arith)
 
     -- so all begins with what is given
-    split_at : (all text : List ℕ) (packets : ℕ) → all ≡ headers_for b.channels ++ (pages_text plan frame 0 packets ++ text) → packets_for plan heard ≤ packets
-        → all ≡ given w.function settings bytes ++ (pages_text plan frame (packets_for plan heard) (packets - packets_for plan heard) ++ text)
-    split_at all text packets e ahead =
-        let p = packets_for plan heard in
-        let rest = pages_text plan frame p (packets - p) ++ text in
-        e ∙ ap (λ l. headers_for b.channels ++ (l ++ text)) (text_from plan frame p packets ahead) ∙ ap (λ l. headers_for b.channels ++ l) (append_assoc (pages_text plan frame 0 p) (pages_text plan frame p (packets - p)) text)
-        ∙ sym (append_assoc (headers_for b.channels) (pages_text plan frame 0 p) rest) ∙ ap (λ l. l ++ rest) (sym (given_text w.function plan settings b.channels heard bytes plan_is b.size b.place b.is))
+    running_text : flat_map spelling (pages_by w.function settings (Started b.channels 48000 b.size b.place) bytes false) ≡ headers_for b.channels ++ pages_text plan frame 0 (settled_for plan heard)
+    running_text = all_settled w.function plan settings b.channels heard bytes plan_is b.size b.place
 
-    settled_split : (rest : List ℕ) × (flat_map spelling (pages_by w.function settings (Started b.channels 48000 b.size b.place) bytes false) ≡ given w.function settings bytes ++ rest)
-    settled_split =
-        (_, split_at _ [] (settled_for plan heard) (with_first (settled_pages (coded w.function audio) (sample_count audio)) ∙ ap (λ l. headers_for b.channels ++ l) (settled_text ∙ sym (append-nil (pages_text plan frame 0 (settled_for plan heard))))) settled_first)
+    ended_all : flat_map spelling (pages_by w.function settings (Started b.channels 48000 b.size b.place) bytes true) ≡ headers_for b.channels ++ (pages_text plan frame 0 ((frames_for plan heard - 1) / plan.group) ++ spelling (last_for frame plan heard))
+    ended_all = all_ended w.function plan settings b.channels heard bytes plan_is b.size b.place
 
-    ended_split : (rest : List ℕ) × (flat_map spelling (pages_by w.function settings (Started b.channels 48000 b.size b.place) bytes true) ≡ given w.function settings bytes ++ rest)
-    ended_split =
-        (_, split_at _ (flat_map spelling (last_for frame plan heard ∷ [])) ((frames_for plan heard - 1) / plan.group) (with_first (ended_pages (coded w.function audio) (sample_count audio)) ∙ ap (λ l. headers_for b.channels ++ l) ended_text) last_first)
+    either_split : (ends : Bool) → (rest : List ℕ) × (flat_map spelling (pages_by w.function settings (Started b.channels 48000 b.size b.place) bytes ends) ≡ given w.function settings bytes ++ rest)
+    either_split true =
+        (_, given_begins w.function plan settings b.channels heard bytes plan_is b.size b.place b.is _ (spelling (last_for frame plan heard)) ((frames_for plan heard - 1) / plan.group) ended_all last_first)
+    either_split false =
+        (_, given_begins w.function plan settings b.channels heard bytes plan_is b.size b.place b.is _ [] (settled_for plan heard)
+          (running_text ∙ ap (λ l. headers_for b.channels ++ l) (sym (append-nil (pages_text plan frame 0 (settled_for plan heard))))) settled_first)
 
     -- ---- pages that no later byte changes
 
@@ -167,12 +137,6 @@ module _ {W : Type 0} (w : FrameWorks W) (settings : Settings) (ok : AreSettings
         let c = mul-le plan.kind.channels (whole * plan.samples) plan.kind.channels n (omega arith) a in
         let d = mul_comm n plan.kind.channels in
         omega arith
-
-    running_text : flat_map spelling (pages_by w.function settings (Started b.channels 48000 b.size b.place) bytes false) ≡ headers_for b.channels ++ pages_text plan frame 0 (settled_for plan heard)
-    running_text = with_first (settled_pages (coded w.function audio) (sample_count audio)) ∙ ap (λ l. headers_for b.channels ++ l) settled_text
-
-    ended_all : flat_map spelling (pages_by w.function settings (Started b.channels 48000 b.size b.place) bytes true) ≡ headers_for b.channels ++ (pages_text plan frame 0 ((frames_for plan heard - 1) / plan.group) ++ flat_map spelling (last_for frame plan heard ∷ []))
-    ended_all = with_first (ended_pages (coded w.function audio) (sample_count audio)) ∙ ap (λ l. headers_for b.channels ++ l) ended_text
 
     settled_whole : settled_for plan heard * plan.group ≤ whole
     settled_whole = subst (λ n. n * plan.group ≤ whole) (sym (settled_is plan heard whole refl)) (div-mul-le_self whole plan.group)
@@ -189,10 +153,6 @@ module _ {W : Type 0} (w : FrameWorks W) (settings : Settings) (ok : AreSettings
         let below : (whole + 1) * plan.samples ≤ 120 + n + plan.samples - 1 = let c = div-mul-le_self n plan.samples in let d = Rattle.std.proofs.Math.Nat.add-mul whole 1 plan.samples in let e = Rattle.std.proofs.Math.Nat.one-mul plan.samples in omega arith in
         let more = le-div (whole + 1) (120 + n + plan.samples - 1) plan.samples (omega arith) below in
         le-div p (frames_for plan heard - 1) plan.group (omega arith) (omega arith)
-
-    either_split : (ends : Bool) → (rest : List ℕ) × (flat_map spelling (pages_by w.function settings (Started b.channels 48000 b.size b.place) bytes ends) ≡ given w.function settings bytes ++ rest)
-    either_split true = ended_split
-    either_split false = settled_split
 
     abbrev extra : List ℕ → List ℕ
     extra more = within_size (left_of b.size (length bytes - b.place)) more
@@ -261,9 +221,6 @@ module _ {W : Type 0} (w : FrameWorks W) (settings : Settings) (ok : AreSettings
         ap (λ l. pages_text plan (plan_frame w.function plan l) 0 (settled_for plan (heard plan bytes b is))) same
         ∙ text_stays w.function plan (heard plan bytes b is) (extra plan bytes b is more) (whole plan bytes b is) (settled_for plan (heard plan bytes b is)) (whole_within plan bytes b is) (settled_whole plan bytes b is)
 
-    abbrev whole_now : ℕ
-    whole_now = whole plan (bytes ++ more) b' is'
-
     more_whole : settled * plan.group ≤ whole plan (bytes ++ more) b' is'
     more_whole =
         let len = ap length same ∙ length-append (heard plan bytes b is) (extra plan bytes b is more) in
@@ -285,7 +242,7 @@ module _ {W : Type 0} (w : FrameWorks W) (settings : Settings) (ok : AreSettings
         ≡ flat_map spelling (pages_by w.function settings (Started b.channels 48000 b.size b.place) bytes false) ++ rest)
     running_split true = (
       _,
-      join _ (flat_map spelling (last_for frame' plan (within_size b.size (drop b.place (bytes ++ more))) ∷ [])) ((frames_for plan (within_size b.size (drop b.place (bytes ++ more))) - 1) / plan.group)
+      join _ (spelling (last_for frame' plan (within_size b.size (drop b.place (bytes ++ more))))) ((frames_for plan (within_size b.size (drop b.place (bytes ++ more))) - 1) / plan.group)
           (ended_all plan (bytes ++ more) b' is') (least_ended plan (bytes ++ more) b' is' settled more_whole),
     )
     running_split false = (

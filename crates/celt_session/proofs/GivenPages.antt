@@ -1,9 +1,10 @@
 -- The pages that a session gives, by what its maker has made.
-use Rattle.std.proofs.Common.{◌≡◌, ℕ, ℤ, ◌+◌, ◌*◌, ◌/◌, ◌≤◌, ◌<◌, ◌⊎◌, List, ◌++◌, length, drop, Option, sym, ◌∙◌, ap, subst, arith, append_assoc}
+use Rattle.std.proofs.Common.{◌≡◌, ℕ, ℤ, ◌+◌, ◌-◌, ◌*◌, ◌/◌, ◌≤◌, ◌<◌, ◌⊎◌, true, false, List, [], ◌∷◌, ◌++◌, length, drop, Option, sym, ◌∙◌, ap, subst, arith, append_assoc, append-nil}
 use Rattle.std.specs.List.{flat_map}
 use Rattle.std.proofs.Math.Nat.{mul_assoc, mul-add, add-mul, one-mul, div-div-eq-div-mul, div-eq_of_lt-le, div-mul-le_self, mul_comm}
 use Rattle.std.proofs.Math.Seq.{drop-append_seam}
 use Rattle.std.proofs.lemmas.Nat.{mul-le, le-div, div-mul-add}
+use Rattle.std.proofs.lemmas.List.Concat.{flat_map-append}
 use Rattle.ogg_pages.specs.Fields.{Page}
 use Rattle.ogg_pages.specs.Spelling.{spelling}
 use Rattle.celt_base.specs.declared.kind.Kind.{Kind}
@@ -17,13 +18,14 @@ use Rattle.celt_session.specs.Frames.{kind_of, duration}
 use Rattle.celt_session.specs.Encoding.{head_page, tags_page, coding_of, toc_of}
 use Rattle.celt_session.specs.FrameFunctions.{FrameFunction, frame_at}
 use Rattle.celt_session.specs.Windows.{lead, window_of}
-use Rattle.celt_session.specs.AudioPages.{Coded, kind_in, packets_from, with_headers}
-use Rattle.celt_session.specs.Encodings.{Audio, coded, sample_count, audio_of}
+use Rattle.celt_session.specs.AudioPages.{Coded, kind_in, packets_from, page_of, ended_pages, settled_pages, with_headers}
+use Rattle.celt_session.specs.Encodings.{Audio, coded, sample_count, audio_of, pages_by}
 use Rattle.celt_session.specs.FrameWorks.{FrameWorks}
 use Rattle.celt_session.specs.Packers.{coded_by, pages_text}
-use Rattle.celt_session.specs.Makers.{group_bytes, plan_frame, HasMade, GoesOn}
+use Rattle.celt_session.specs.Makers.{group_bytes, plan_frame, HasMade, GoesOn, settled_for, frames_for, last_for}
 use Rattle.celt_session.specs.FrameSessions.{given_packets, given_by, given, given_more}
 use Rattle.celt_session.proofs.Sampling.{samples-len}
+use Rattle.celt_session.proofs.PacketLemmas.{text_from}
 use Rattle.celt_session.proofs.WindowLemmas.{held-len}
 use Rattle.celt_session.proofs.MakerLemmas.{plan_sizes}
 use Rattle.celt_session.proofs.Planned.{toc_is, kind_channels}
@@ -137,6 +139,64 @@ module _ (f : FrameFunction) (plan : Plan) (settings : Settings) (channels : ℕ
       ∙ headers_are (coded f a) (packets_from (coded f a) 0 (given_packets (coded f a) (sample_count a))) kind_channels_are
       ∙ ap (λ n. headers_for channels ++ flat_map spelling (packets_from (coded f a) 0 n)) packets_are
       ∙ ap (λ c. headers_for channels ++ flat_map spelling (packets_from c 0 (packets_for plan heard))) (sym coded_is)
+
+  -- all that is given begins each list that has the headers and as many packets
+  pub given_begins : (declared : Option ℕ) (place : ℕ) → outcome bytes ≡ Started channels 48000 declared place → (all text : List ℕ) (packets : ℕ)
+      → all ≡ headers_for channels ++ (pages_text plan (plan_frame f plan heard) 0 packets ++ text) → packets_for plan heard ≤ packets
+      → all ≡ given f settings bytes ++ (pages_text plan (plan_frame f plan heard) (packets_for plan heard) (packets - packets_for plan heard) ++ text)
+  given_begins declared place begun all text packets e ahead =
+      let frame = plan_frame f plan heard in
+      let p = packets_for plan heard in
+      let rest = pages_text plan frame p (packets - p) ++ text in
+      e ∙ ap (λ l. headers_for channels ++ (l ++ text)) (text_from plan frame p packets ahead)
+      ∙ ap (λ l. headers_for channels ++ l) (append_assoc (pages_text plan frame 0 p) (pages_text plan frame p (packets - p)) text)
+      ∙ sym (append_assoc (headers_for channels) (pages_text plan frame 0 p) rest) ∙ ap (λ l. l ++ rest) (sym (given_text declared place begun))
+
+  -- ---- the pages of a file that ends, and of one that may go on
+
+  frame_size : plan.samples ≡ duration (kind_of plan.toc)
+  frame_size = plan.samples_is ∙ ap duration plan.kind_is
+
+  abbrev ended_by : ℕ → ℕ → List Page
+  ended_by n samples =
+      let c = coded_by plan (plan_frame f plan heard) in
+      let count = (120 + n + samples - 1) / samples in
+      packets_from c 0 ((count - 1) / plan.group) ++ page_of c 4 (120 + n) ((count - 1) / plan.group) (count - (count - 1) / plan.group * plan.group) ∷ []
+
+  ended_text : flat_map spelling (ended_pages (coded f (audio_of settings channels bytes)) (sample_count (audio_of settings channels bytes)))
+      ≡ pages_text plan (plan_frame f plan heard) 0 ((frames_for plan heard - 1) / plan.group) ++ spelling (last_for (plan_frame f plan heard) plan heard)
+  ended_text =
+      let frame = plan_frame f plan heard in
+      let packets = (frames_for plan heard - 1) / plan.group in
+      ap (λ c. flat_map spelling (ended_pages c (sample_count (audio_of settings channels bytes)))) (sym coded_is)
+      ∙ ap (λ n. flat_map spelling (ended_pages (coded_by plan frame) n)) count_is
+      ∙ ap (λ n. flat_map spelling (ended_by (length heard / 2 / plan.kind.channels) n)) (sym frame_size)
+      ∙ flat_map-append spelling (packets_from (coded_by plan frame) 0 packets) (last_for frame plan heard ∷ [])
+      ∙ ap (λ l. pages_text plan frame 0 packets ++ l) (append-nil (spelling (last_for frame plan heard)))
+
+  settled_text : flat_map spelling (settled_pages (coded f (audio_of settings channels bytes)) (sample_count (audio_of settings channels bytes)))
+      ≡ pages_text plan (plan_frame f plan heard) 0 (settled_for plan heard)
+  settled_text =
+      let frame = plan_frame f plan heard in
+      ap (λ c. flat_map spelling (settled_pages c (sample_count (audio_of settings channels bytes)))) (sym coded_is)
+      ∙ ap (λ n. flat_map spelling (settled_pages (coded_by plan frame) n)) count_is
+      ∙ ap (λ n. pages_text plan frame 0 (length heard / 2 / plan.kind.channels / (plan.group * n))) (sym frame_size)
+
+  with_first : (pages : List Page) → flat_map spelling (with_headers (coded f (audio_of settings channels bytes)) pages) ≡ headers_for channels ++ flat_map spelling pages
+  with_first pages = headers_are (coded f (audio_of settings channels bytes)) pages kind_channels_are
+
+  -- with the headers
+  pub all_ended : (declared : Option ℕ) (place : ℕ) → flat_map spelling (pages_by f settings (Started channels 48000 declared place) bytes true)
+      ≡ headers_for channels ++ (pages_text plan (plan_frame f plan heard) 0 ((frames_for plan heard - 1) / plan.group) ++ spelling (last_for (plan_frame f plan heard) plan heard))
+  all_ended declared place =
+      let a = audio_of settings channels bytes in
+      with_first (ended_pages (coded f a) (sample_count a)) ∙ ap (λ l. headers_for channels ++ l) ended_text
+
+  pub all_settled : (declared : Option ℕ) (place : ℕ) → flat_map spelling (pages_by f settings (Started channels 48000 declared place) bytes false)
+      ≡ headers_for channels ++ pages_text plan (plan_frame f plan heard) 0 (settled_for plan heard)
+  all_settled declared place =
+      let a = audio_of settings channels bytes in
+      with_first (settled_pages (coded f a) (sample_count a)) ∙ ap (λ l. headers_for channels ++ l) settled_text
 
 -- ---- what was made
 

@@ -126,6 +126,12 @@ module _ (plan : Plan) (frame : ℕ → List ℕ) where
       let place : p + (q - p) ≡ q = omega arith in
       ap (pages_text plan frame p) e ∙ text-join p (q - p) (r - q) ∙ ap (λ n. pages_text plan frame p (q - p) ++ pages_text plan frame n (r - q)) place
 
+  pub text_from : (p q : ℕ) → p ≤ q → pages_text plan frame 0 q ≡ pages_text plan frame 0 p ++ pages_text plan frame p (q - p)
+  text_from p q h =
+      let e : q ≡ p + (q - p) = omega arith in
+      let none : 0 + p ≡ p = omega arith in
+      ap (pages_text plan frame 0) e ∙ text-join 0 p (q - p) ∙ ap (λ n. pages_text plan frame 0 p ++ pages_text plan frame n (q - p)) none
+
   pub text-one : (p : ℕ) → pages_text plan frame p 1 ≡ spelling (page_of (coded_by plan frame) 0 ((p + 1) * plan.group * duration (kind_of plan.toc)) p plan.group)
   text-one p =
       let c = coded_by plan frame in

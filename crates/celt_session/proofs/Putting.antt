@@ -9,13 +9,6 @@ use Rattle.std.proofs.lemmas.List.{length-set, length-take-le, length-drop}
 use Rattle.celt_session.specs.Texts.{hex_digit, hex_digits, IsPut}
 use Rattle.celt_session.specs.Lines.{line_of}
 
-pub put_one : (old : List ℕ) (at byte : ℕ) → at < length old → IsPut old (set old at byte) at (at + 1) (byte ∷ [])
-put_one old at byte h = record {
-  len = length-set old at byte;
-  front = ap (λ n. take n (set old at byte)) (add-one at) ∙ take-suc-set old at byte h;
-  ends = refl;
-}
-
 pub put_none : (old : List ℕ) (at : ℕ) → IsPut old old at at []
 put_none old at = record { len = refl; front = sym (append-nil (take at old)); ends = omega arith }
 

@@ -44,6 +44,7 @@ impl EncodeSession {
     pub fn new(alloc: Global, settings: Settings) -> Result<EncodeSession, OutOfMemory>
         requires { AreSettings settings }
         ensures stands { IfOk result (λ session. StandsFor session []) }
+        ensures only { IfOk result (λ session. (bytes : List ℕ) → StandsFor session bytes → bytes ≡ []) }
         ensures settings { IfOk result (λ session. settings_of session ≡ settings) }
         ensures going { IfOk result (λ session. is_ended session ≡ false) }
         ensures taken { IfOk result (λ session. taken_by session ≡ 0) }

@@ -1,5 +1,5 @@
-//! Streams from their bytes to what they give, in pieces of any size and in bounded room: the accepted pages
-//! of an Ogg stream one after the other, and the work on each of them.
+//! Decoding of Ogg streams and encoding of WAV files, in pieces of any size and in bounded room: the accepted pages of a
+//! stream one after the other and the work on each of them, and the frames of a file and the pages of their packets.
 #![tactic(auto)]
 
 mod batch;
@@ -38,6 +38,8 @@ mod recorder;
 mod recording;
 mod samples;
 mod session;
+#[cfg(test)]
+mod session_tests;
 mod settings;
 mod stream;
 #[cfg(test)]
@@ -48,6 +50,7 @@ mod work;
 
 pub use decoding::{DecodeSession, decode_stream};
 pub use encode_session::EncodeSession;
+pub use encoded_laws::{law_frame_length, law_window_pitch};
 pub use encoding_laws::{law_frames, law_stream_goes_on, law_wave_fault_stays};
 pub use ended::Ended;
 pub use fed::Fed;

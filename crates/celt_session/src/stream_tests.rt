@@ -11,15 +11,15 @@ use std::thread::Threads;
 /// What a stream gives: its bytes in hexadecimal, its fault with the number of its place, and for a WAV file, for
 /// samples alone, for samples without phase inversion, and for lines, how many bytes these are and a sum over them.
 #[derive(Clone, Copy)]
-struct Row {
-    name: &'static str,
-    stream: &'static str,
-    fault: Option<(FaultName, u64)>,
-    outputs: [(usize, u64); 4],
+pub(crate) struct Row {
+    pub name: &'static str,
+    pub stream: &'static str,
+    pub fault: Option<(FaultName, u64)>,
+    pub outputs: [(usize, u64); 4],
 }
 
 /// What a stream is decoded into, in the order of a row's outputs.
-const SETTINGS: [DecodeSettings; 4] = [
+pub(crate) const SETTINGS: [DecodeSettings; 4] = [
     DecodeSettings {
         form: Form::Wav,
         invert: true,
@@ -38,7 +38,7 @@ const SETTINGS: [DecodeSettings; 4] = [
     },
 ];
 
-const ROWS: [Row; 21] = [
+pub(crate) const ROWS: [Row; 21] = [
     Row {
         name: "a silent frame",
         stream: "4f676753000200000000000000000100000000000000846cd92401134f707573486561640101000080bb0000\
@@ -349,7 +349,7 @@ fn digit(code: u8) -> u8 {
 }
 
 /// The bytes that the digits stand for.
-fn bytes_of(alloc: Global, text: &str) -> Result<Vec<u8>, AllocError> {
+pub(crate) fn bytes_of(alloc: Global, text: &str) -> Result<Vec<u8>, AllocError> {
     let mut bytes = Vec::new(alloc);
     for pair in text.as_bytes().chunks(2) {
         if let [high, low] = pair {
@@ -360,7 +360,7 @@ fn bytes_of(alloc: Global, text: &str) -> Result<Vec<u8>, AllocError> {
 }
 
 /// A sum that every byte and its place goes into.
-fn sum(bytes: &[u8]) -> u64 {
+pub(crate) fn sum(bytes: &[u8]) -> u64 {
     let mut sum = 0u64;
     for byte in bytes {
         sum = sum.wrapping_mul(1_000_003).wrapping_add(u64::from(*byte));

@@ -1,5 +1,5 @@
 //! A session that encodes, over a source and a sink, up to a limit.
-ghost use Rattle.std.specs.Prelude.{◌≡◌, ◌≢◌, ◌^◌, ◌≤◌, ◌<◌, [], false, length, IfOk, IfSome};
+ghost use Rattle.std.specs.Prelude.{◌≡◌, ◌≢◌, ◌^◌, ◌≤◌, ◌<◌, ℕ, List, [], false, length, IfOk, IfSome};
 ghost use Rattle.celt_base.specs.Outside.{Rose};
 ghost use Rattle.celt_session.specs.Outcomes.{wanted, Answers, WritesFront};
 ghost use Rattle.celt_session.specs.Encodings.{AreSettings, encoding_by};
@@ -31,6 +31,7 @@ pub(crate) fn new_session(
 ) -> Result<FrameSession<EncoderPair>, OutOfMemory>
     requires { AreSettings settings }
     ensures stands { IfOk result (λ session. StandsFor pair_work session []) }
+    ensures only { IfOk result (λ session. (bytes : List ℕ) → StandsFor pair_work session bytes → bytes ≡ []) }
     ensures goes { IfOk result (λ session. Goes pair_work session) }
     ensures going { IfOk result (λ session. session.is_ended ≡ false) }
     ensures fed { IfOk result (λ session. session.fed ≡ 0) }
