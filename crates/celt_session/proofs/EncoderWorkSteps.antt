@@ -10,7 +10,6 @@ use Rattle.std.proofs.Math.Seq.{take-append_seam}
 use Rattle.celt_analysis.specs.Batches.{AreWindows, IsWindow}
 use Rattle.celt_session.proofs.Rows.{made_none, made_more}
 use Rattle.celt_base.specs.declared.kind.Kind.{Kind}
-use Rattle.celt_base.specs.declared.state.Setting.{Setting}
 use Rattle.celt_analysis.specs.Analyses.{Analysis, analysed, analysis_of, found}
 use Rattle.celt_encode.specs.Encoders.{EncoderState, outset_by, outset_for, encoded, kept, after_frame}
 use Rattle.celt_encode.specs.Frames.{frame_of, kept_of}
@@ -20,7 +19,7 @@ use Rattle.celt_session.specs.declared.hearing.Trail.{Trail}
 use Rattle.celt_session.specs.EncodedFrames.{Footing, analysis_by, encoder_by, footing_after, frame_by, encoded_frames, pitch_of}
 use Rattle.celt_session.specs.EncoderWorks.{encoder_after, IsOn}
 use Rattle.celt_session.specs.FrameFunctions.{Row, state_before, frame_at, frames_from}
-use Rattle.celt_session.specs.Hearings.{window_at, trail_by, settings_at, pitches_of, heard_at}
+use Rattle.celt_session.specs.Hearings.{window_at, trail_by, pitches_of, heard_at}
 
 -- ---- one frame
 

@@ -1,8 +1,8 @@
 -- How many frames and packets a stream has, and what more bytes do to it.
-use Rattle.std.proofs.Common.{◌≡◌, ℕ, zero, ◌+◌, ◌-◌, ◌*◌, ◌/◌, ◌^◌, ◌≤◌, ◌<◌, Bool, true, false, List, [], ◌++◌, length, take, Option, Some, None, refl, sym, ◌∙◌, ap, arith}
+use Rattle.std.proofs.Common.{◌≡◌, ℕ, zero, suc, ◌+◌, ◌-◌, ◌*◌, ◌/◌, ◌≤◌, ◌<◌, false, List, [], ◌++◌, length, take, Some, None, ◌∙◌, ap, arith}
 use Rattle.std.specs.Prelude.{◌↔◌, if◌then◌else◌, is_none}
 use Rattle.std.specs.List.{flat_map}
-use Rattle.std.proofs.Math.Nat.{lt-div-mul-add, div-mul-le_self, le-div_iff_mul-le}
+use Rattle.std.proofs.Math.Nat.{lt-div-mul-add, div-mul-le_self, le-div_iff_mul-le, add-mul}
 use Rattle.std.proofs.Math.Seq.{take-append_seam}
 use Rattle.std.proofs.lemmas.Nat.{pow_pos, mul-le}
 use Rattle.celt_base.specs.declared.status.Fault.{Fault}
@@ -17,7 +17,7 @@ use Rattle.celt_session.specs.AudioPages.{Coded, kind_in, frame_count, last_pack
 use Rattle.celt_session.specs.Encodings.{AreSettings, pages_by, fault_of, full, running}
 use Rattle.celt_session.specs.EncodedFrames.{encoded_frames}
 use Rattle.celt_session.specs.EncoderPairs.{pair_work}
-use Rattle.celt_session.specs.FrameSessions.{lasting, fault_now}
+use Rattle.celt_session.specs.FrameSessions.{lasting}
 use Rattle.celt_session.specs.Outcomes.{is_early_end}
 use Rattle.celt_session.proofs.FeedingSamples.{fault_is, faulty_by}
 use Rattle.celt_session.proofs.GivenLaws.{running_front, full_front}
@@ -31,37 +31,39 @@ pub frames_enough : (c : Coded) (n : ℕ) → 120 + n ≤ frame_count c n * dura
 frames_enough c n =
     let some = some_samples (kind_in c) in
     let d = duration (kind_in c) in
-    let below = lt-div-mul-add {120 + n + d - 1} {d} some in
+    let below : 120 + n + d - 1 < (120 + n + d - 1) / d * d + d = lt-div-mul-add some in
     omega arith
+
+-- so there is one at least
+some_frames : (c : Coded) (n count : ℕ) → 120 + n ≤ count * duration (kind_in c) → 1 ≤ count
+some_frames c n zero h = omega arith
+some_frames c n (suc count) h = omega arith
 
 pub frames_fewest : (c : Coded) (n : ℕ) → (frame_count c n - 1) * duration (kind_in c) < 120 + n
 frames_fewest c n =
-    let some = some_samples (kind_in c) in
     let d = duration (kind_in c) in
+    let count = frame_count c n in
+    let some = some_samples (kind_in c) in
+    let positive = some_frames c n count (frames_enough c n) in
     let within = div-mul-le_self (120 + n + d - 1) d in
-    let less : (frame_count c n - 1) * d ≡ frame_count c n * d - d = sub-one (frame_count c n) d in
-    omega arith where
-  sub-one : (q d : ℕ) → (q - 1) * d ≡ q * d - d
-  sub-one zero d = omega arith
-  sub-one (suc q) d = omega arith
+    let e : count ≡ count - 1 + 1 = omega arith in
+    let split : count * d ≡ (count - 1) * d + 1 * d = ap (λ k. k * d) e ∙ add-mul (count - 1) 1 d in
+    omega arith
 
 pub last_frames : (c : Coded) (n : ℕ) → 1 ≤ c.group → (last_packet c n * c.group < frame_count c n) × (frame_count c n ≤ (last_packet c n + 1) * c.group)
 last_frames c n some =
     let count = frame_count c n in
-    let one = frames_enough c n in
+    let positive = some_frames c n count (frames_enough c n) in
     let within = div-mul-le_self (count - 1) c.group in
-    let below = lt-div-mul-add {count - 1} {c.group} some in
-    let positive : 1 ≤ count = some_of count one in
-    (omega arith, omega arith) where
-  some_of : (count : ℕ) → 120 + n ≤ count * duration (kind_in c) → 1 ≤ count
-  some_of zero h = omega arith
-  some_of (suc count) h = omega arith
+    let below : count - 1 < (count - 1) / c.group * c.group + c.group = lt-div-mul-add some in
+    let split = add-mul (last_packet c n) 1 c.group in
+    (omega arith, omega arith)
 
 pub packets_within : (c : Coded) (n p : ℕ) → 1 ≤ c.group → (p < settled_packets c n) ↔ ((p + 1) * (c.group * duration (kind_in c)) ≤ n)
 packets_within c n p some =
     let s = some_samples (kind_in c) in
     let long = mul-le 1 1 c.group (duration (kind_in c)) some s in
-    let either = le-div_iff_mul-le {c.group * duration (kind_in c)} {p + 1} {n} (omega arith) in
+    let either : (p + 1 ≤ n / (c.group * duration (kind_in c))) ↔ ((p + 1) * (c.group * duration (kind_in c)) ≤ n) = le-div_iff_mul-le (omega arith) in
     (λ h. either.0 (omega arith), λ h. let more = either.1 h in omega arith)
 
 -- ---- a fault that no later byte mends

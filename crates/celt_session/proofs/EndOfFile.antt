@@ -1,5 +1,5 @@
 -- The end of a file, by what a session has made of it.
-use Rattle.std.proofs.Common.{◌≡◌, ℕ, ◌+◌, ◌-◌, ◌*◌, ◌/◌, ◌%◌, ◌≤◌, ◌<◌, ◌⊎◌, inl, inr, Bool, true, false, nat_le, List, [], ◌∷◌, ◌++◌, length, take, drop, Option, Some, None, refl, sym, ◌∙◌, ap, subst, arith, append_assoc, append-nil, length-drop}
+use Rattle.std.proofs.Common.{◌≡◌, ℕ, ◌+◌, ◌-◌, ◌*◌, ◌/◌, ◌%◌, ◌≤◌, ◌<◌, ◌⊎◌, inl, inr, Bool, true, false, nat_le, List, [], ◌++◌, length, take, drop, Option, Some, None, refl, sym, ◌∙◌, ap, subst, arith, append-nil, length-drop}
 use Rattle.std.specs.Prelude.{if◌then◌else◌, ◌==◌, is_none}
 use Rattle.std.specs.List.{flat_map}
 use Rattle.std.specs.Io.KnownBytes.{Appends}
@@ -8,11 +8,9 @@ use Rattle.std.proofs.Math.Nat.{mul_assoc, add-mul-mod_self_left, mul-add-mod_se
 use Rattle.std.proofs.Math.Seq.{drop-append_seam}
 use Rattle.std.proofs.lemmas.Bool.{cases_lt, eqb-true, leb-true, eq-eqb, ne_eqb, le-leb, lt-leb}
 use Rattle.std.proofs.lemmas.List.{length-take-le}
-use Rattle.std.proofs.lemmas.List.Concat.{flat_map-append}
 use Rattle.celt_base.specs.declared.status.Fault.{Fault}
 use Rattle.celt_base.specs.declared.status.FaultName.TheVariants as names
 use Rattle.celt_base.specs.declared.kind.Kind.{Kind}
-use Rattle.ogg_pages.specs.Fields.{Page}
 use Rattle.ogg_pages.specs.Spelling.{spelling}
 use Rattle.wav_edge.specs.Reading.{Outcome, outcome, within_size, is_whole, fault_at_end, end_fault}
 use Rattle.wav_edge.specs.Reading.Outcome.{Unfinished, Started}
@@ -20,13 +18,12 @@ use Rattle.celt_session.specs.declared.plan.Plan.{Plan}
 use Rattle.celt_session.specs.declared.maker.Maker.{Maker}
 use Rattle.celt_session.specs.declared.recording.Recording.{Recording}
 use Rattle.celt_session.specs.declared.settings.Settings.{Settings}
-use Rattle.celt_session.specs.Encodings.{Audio, audio_of, coded, sample_count, pages_by, fault_by, fault_of, full, running}
-use Rattle.celt_session.specs.AudioPages.{packets_from, settled_pages, ended_pages, page_of, with_headers}
-use Rattle.celt_session.specs.Frames.{kind_of, duration}
+use Rattle.celt_session.specs.Encodings.{pages_by, fault_by, fault_of, full, running}
+use Rattle.celt_session.specs.Frames.{kind_of}
 use Rattle.celt_session.specs.FrameFunctions.{FrameFunction}
 use Rattle.celt_session.specs.Windows.{lead}
 use Rattle.celt_session.specs.FrameWorks.{FrameWorks}
-use Rattle.celt_session.specs.Packers.{coded_by, pages_text}
+use Rattle.celt_session.specs.Packers.{pages_text}
 use Rattle.celt_session.specs.Makers.{group_bytes, plan_frame, GoesOn, settled_for, frames_for, last_for, ending_text}
 use Rattle.celt_session.specs.FrameSessions.{given, full_more, running_more, is_complete, left_of, AmongSamples}
 use Rattle.celt_session.proofs.WindowLemmas.{held-len}

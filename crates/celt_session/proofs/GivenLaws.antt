@@ -1,36 +1,32 @@
 -- What a session gives is a front of all that is written, and more bytes only add to it.
-use Rattle.std.proofs.Common.{◌≡◌, ℕ, zero, suc, ◌+◌, ◌-◌, ◌*◌, ◌/◌, ◌≤◌, ◌<◌, ◌⊎◌, inl, inr, Bool, true, false, List, [], ◌∷◌, ◌++◌, length, take, drop, Option, Some, None, refl, sym, ◌∙◌, ap, subst, arith, append_assoc, append-nil, length-append}
+use Rattle.std.proofs.Common.{◌≡◌, ℕ, ◌+◌, ◌-◌, ◌*◌, ◌/◌, ◌≤◌, ◌<◌, ◌⊎◌, Bool, true, false, List, [], ◌++◌, length, drop, Option, refl, sym, ◌∙◌, ap, subst, arith, append_assoc, append-nil, length-append}
 use Rattle.std.specs.Prelude.{is_none}
 use Rattle.std.specs.List.{flat_map}
 use Rattle.std.proofs.Math.Nat.{mul_comm, mul_assoc, div-div-eq-div-mul, div-mul-le_self}
 use Rattle.std.proofs.Math.Seq.{drop-append_seam}
 use Rattle.std.proofs.lemmas.Nat.{le-div, mul-le}
-use Rattle.std.proofs.lemmas.List.Concat.{flat_map-append}
 use Rattle.celt_base.specs.declared.status.Fault.{Fault}
-use Rattle.ogg_pages.specs.Fields.{Page}
 use Rattle.ogg_pages.specs.Spelling.{spelling}
 use Rattle.wav_edge.specs.Reading.{Outcome, outcome, within_size}
 use Rattle.wav_edge.specs.Reading.Outcome.{Unfinished, Faulty, Started}
 use Rattle.wav_edge.specs.Samples.{samples_of}
 use Rattle.wav_edge.proofs.LawLemmas.{is_decided, outcome_stays, IsSound, outcome_sound}
-use Rattle.wav_edge.proofs.ReaderLemmas.{readable_cases, readable_bounds}
+use Rattle.wav_edge.proofs.ReaderLemmas.{readable_bounds}
 use Rattle.celt_session.specs.declared.plan.Plan.{Plan}
 use Rattle.celt_session.specs.declared.settings.Settings.{Settings}
 use Rattle.celt_session.specs.Encoding.{coding_of, toc_of}
-use Rattle.celt_session.specs.Encodings.{Audio, AreSettings, audio_of, coded, sample_count, pages_by, fault_of, full, running}
-use Rattle.celt_session.specs.AudioPages.{packets_from, settled_pages, ended_pages, page_of, with_headers}
+use Rattle.celt_session.specs.Encodings.{AreSettings, pages_by, fault_of, full, running}
 use Rattle.celt_session.specs.Frames.{kind_of, duration}
-use Rattle.celt_session.specs.FrameFunctions.{FrameFunction}
 use Rattle.celt_session.specs.FrameWorks.{FrameWorks}
-use Rattle.celt_session.specs.Packers.{coded_by, pages_text}
+use Rattle.celt_session.specs.Packers.{pages_text}
 use Rattle.celt_session.specs.Makers.{group_bytes, plan_frame, settled_for, frames_for, last_for}
-use Rattle.celt_session.specs.FrameSessions.{given, given_more, full_more, running_more, left_of, fault_now, lasting}
+use Rattle.celt_session.specs.FrameSessions.{given, given_more, full_more, running_more, left_of}
 use Rattle.celt_session.proofs.Planned.{toc_is, duration_for, few_frames}
 use Rattle.celt_session.proofs.MakerLemmas.{plan_sizes}
 use Rattle.celt_session.proofs.PacketLemmas.{text_from}
 use Rattle.celt_session.proofs.LastFrames.{settled_is}
 use Rattle.celt_session.proofs.GivenPages.{IsPlanOf, headers_for, packets_for, given_begins, all_ended, all_settled, least_packets, frames_within}
-use Rattle.celt_session.proofs.FeedingSamples.{GoOn, given_split, given_is, given_none, given_faulty, taken_bytes, samples_are, has_begun, text_stays}
+use Rattle.celt_session.proofs.FeedingSamples.{GoOn, given_split, given_none, given_faulty, taken_bytes, samples_are, has_begun, text_stays}
 
 -- the plan of the settings
 plan_for : (settings : Settings) (channels : ℕ) → AreSettings settings → (channels ≡ 1) ⊎ (channels ≡ 2) → Plan
@@ -122,9 +118,11 @@ module _ {W : Type 0} (w : FrameWorks W) (settings : Settings) (ok : AreSettings
     either_split : (ends : Bool) → (rest : List ℕ) × (flat_map spelling (pages_by w.function settings (Started b.channels 48000 b.size b.place) bytes ends) ≡ given w.function settings bytes ++ rest)
     either_split true =
         (_, given_begins w.function plan settings b.channels heard bytes plan_is b.size b.place b.is _ (spelling (last_for frame plan heard)) ((frames_for plan heard - 1) / plan.group) ended_all last_first)
-    either_split false =
-        (_, given_begins w.function plan settings b.channels heard bytes plan_is b.size b.place b.is _ [] (settled_for plan heard)
-          (running_text ∙ ap (λ l. headers_for b.channels ++ l) (sym (append-nil (pages_text plan frame 0 (settled_for plan heard))))) settled_first)
+    either_split false = (
+      _,
+      given_begins w.function plan settings b.channels heard bytes plan_is b.size b.place b.is _ [] (settled_for plan heard)
+          (running_text ∙ ap (λ l. headers_for b.channels ++ l) (sym (append-nil (pages_text plan frame 0 (settled_for plan heard))))) settled_first,
+    )
 
     -- ---- pages that no later byte changes
 

@@ -1,5 +1,5 @@
 -- Slots of a batch, one after the other.
-use Rattle.std.proofs.Common.{◌≡◌, ◌≢◌, ℕ, zero, suc, ◌+◌, ◌*◌, ◌<◌, ◌≤◌, ℤ, List, [], ◌∷◌, length, slice_set, take, ◌++◌, refl, sym, ap, subst, ◌∙◌, arith, inl, inr}
+use Rattle.std.proofs.Common.{◌≡◌, ℕ, zero, suc, ◌+◌, ◌<◌, ◌≤◌, ℤ, List, [], ◌∷◌, length, slice_set, take, ◌++◌, refl, sym, ap, subst, ◌∙◌, arith, inl, inr}
 use Rattle.std.specs.Prelude.{slice_index_or}
 use Rattle.std.proofs.lemmas.Bool.{cases_eq}
 use Rattle.std.proofs.Math.Seq.{take-append_seam}
@@ -8,11 +8,11 @@ use Rattle.celt_base.specs.declared.kind.Kind.{Kind}
 use Rattle.celt_base.specs.declared.state.Setting.{Setting}
 use Rattle.celt_analysis.specs.declared.batch.WindowSlot.{WindowSlot}
 use Rattle.celt_analysis.specs.Analyses.{analysis_of}
-use Rattle.celt_analysis.specs.Batches.{AreWindows, IsWindow, FindsPitch, FindsPitches, AnalysesSlot, AnalysesSlots}
+use Rattle.celt_analysis.specs.Batches.{AreWindows, IsWindow, FindsPitches, AnalysesSlots}
 use Rattle.celt_analysis.specs.Signals.{setting_of, window_size}
 use Rattle.celt_session.specs.declared.hearing.Trail.{Trail}
 use Rattle.celt_session.specs.EncodedFrames.{pitch_of}
-use Rattle.celt_session.specs.Hearings.{HoldWindows, HoldOwn, trail_by, settings_at, Passed, pitches_of, heard_at, HoldHeard}
+use Rattle.celt_session.specs.Hearings.{HoldWindows, HoldOwn, trail_by, settings_at, Passed, pitches_of, HoldHeard}
 use Rattle.celt_session.proofs.EncodedSteps.{pitch_is}
 use Rattle.celt_session.proofs.SlotSteps.{set_all, set_more}
 

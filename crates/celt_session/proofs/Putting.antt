@@ -1,11 +1,10 @@
 -- Text that is put into a slice, part by part.
 use Rattle.std.proofs.Common.{◌≡◌, ℕ, zero, suc, ◌+◌, ◌-◌, ◌/◌, ◌%◌, ◌^◌, ◌<◌, ◌≤◌, List, [], ◌∷◌, ◌++◌, length, take, drop, refl, sym, ◌∙◌, ap, subst, arith, append_assoc, append-nil, length-append}
 use Rattle.std.specs.Fmt.{decimal}
-use Rattle.std.proofs.Math.ListN.{set}
 use Rattle.std.proofs.Math.Numerals.{add-one}
-use Rattle.std.proofs.Math.Seq.{take-suc-set, take-append_seam}
+use Rattle.std.proofs.Math.Seq.{take-append_seam}
 use Rattle.std.proofs.lemmas.Fmt.{decimal_digit, decimal_step, length-decimal-le}
-use Rattle.std.proofs.lemmas.List.{length-set, length-take-le, length-drop}
+use Rattle.std.proofs.lemmas.List.{length-take-le, length-drop}
 use Rattle.celt_session.specs.Texts.{hex_digit, hex_digits, IsPut}
 use Rattle.celt_session.specs.Lines.{line_of}
 

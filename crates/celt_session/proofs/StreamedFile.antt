@@ -1,17 +1,15 @@
 -- A file that is read up to a limit, and what was written of it.
-use Rattle.std.proofs.Common.{◌≡◌, ℕ, ◌+◌, ◌-◌, ◌≤◌, ◌<◌, ◌⊎◌, inl, inr, Bool, true, false, List, [], ◌∷◌, ◌++◌, length, take, drop, Option, Some, None, Result, Ok, Err, refl, sym, ◌∙◌, ap, subst, arith, append_assoc, append-nil, length-append}
+use Rattle.std.proofs.Common.{◌≡◌, ℕ, ◌+◌, ◌-◌, ◌≤◌, ◌<◌, Bool, true, false, List, [], ◌∷◌, ◌++◌, length, take, drop, Option, Some, None, refl, sym, ◌∙◌, ap, subst, arith, append_assoc, append-nil, length-append}
 use Rattle.std.specs.Prelude.{if◌then◌else◌, nat_lt, IfSome}
-use Rattle.std.specs.Io.KnownBytes.{Appends, Consumes, IsAtEnd}
-use Rattle.std.proofs.KnownBytes.{Appends-nil, Appends-trans}
+use Rattle.std.specs.Io.KnownBytes.{Appends, Consumes}
+use Rattle.std.proofs.KnownBytes.{Appends-trans}
 use Rattle.std.proofs.lemmas.Bool.{le-ltb, lt-ltb}
 use Rattle.std.proofs.lemmas.List.{take_all}
 use Rattle.celt_base.specs.declared.status.Fault.{Fault}
-use Rattle.celt_base.specs.declared.status.Status.{Status}
 use Rattle.celt_base.specs.declared.status.Status.TheVariants as statuses
-use Rattle.celt_base.specs.declared.outside.Failed.{Failed}
-use Rattle.celt_base.specs.Outside.{AppendsFront, WritesAll}
-use Rattle.celt_base.proofs.Causes.{all_front, whole_front, then_front, longer_front}
-use Rattle.wav_edge.specs.Reading.{Outcome, outcome}
+use Rattle.celt_base.specs.Outside.{AppendsFront}
+use Rattle.celt_base.proofs.Causes.{all_front, then_front, longer_front}
+use Rattle.wav_edge.specs.Reading.{outcome}
 use Rattle.wav_edge.specs.Reading.Outcome.{Faulty}
 use Rattle.wav_edge.proofs.LawLemmas.{is_decided, outcome_stays}
 use Rattle.celt_session.specs.declared.settings.Settings.{Settings}
@@ -22,7 +20,7 @@ use Rattle.celt_session.specs.Encodings.{AreSettings, fault_of, full, running, e
 use Rattle.celt_session.specs.FrameWorks.{FrameWorks}
 use Rattle.celt_session.specs.FrameSessions.{given, given_more, full_more, running_more, lasting, fault_now, Ends, status_of}
 use Rattle.celt_session.proofs.FeedingSamples.{fault_is, faulty_by}
-use Rattle.celt_session.proofs.Finishing.{known, known_end, front_taken, first_is, cut_len, over_len, within_len}
+use Rattle.celt_session.proofs.Finishing.{known, front_taken, first_is, cut_len, over_len, within_len}
 use Rattle.celt_session.proofs.GivenLaws.{full_joins, running_joins, full_front, given_joins, full_faulty}
 
 -- ---- the status

@@ -144,7 +144,10 @@ fn more_behind_an_end(rt: HostRuntime) -> Result<(), AllocError> {
         name: FaultName::Truncated,
         at: 2,
     };
-    assert_eq!(rt; ends_twice(&rt, rt.alloc(), &bytes)?, (Some(early), None, 1920));
+    assert_eq!(rt;
+        ends_twice(&rt, rt.alloc(), &bytes)?,
+        (Some(early), None, 1920)
+    );
     Ok(())
 }
 
@@ -170,6 +173,9 @@ fn failed(
 fn failing_writes(rt: HostRuntime) -> Result<(), AllocError> {
     let [row, ..] = ROWS;
     let bytes = bytes_of(rt.alloc(), row.stream)?;
-    assert_eq!(rt; failed(&rt, rt.alloc(), &bytes)?, (Fed::WriteFault, true, 960));
+    assert_eq!(rt;
+        failed(&rt, rt.alloc(), &bytes)?,
+        (Fed::WriteFault, true, 960)
+    );
     Ok(())
 }

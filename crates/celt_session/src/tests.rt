@@ -137,12 +137,7 @@ fn feed_pieces(
 }
 
 /// What a session answers that answered this to the last piece: that, or what its end gives.
-fn end_of(
-    rt: &impl Threads,
-    session: &mut EncodeSession,
-    fed: Fed,
-    output: &mut MemSink,
-) -> Ended
+fn end_of(rt: &impl Threads, session: &mut EncodeSession, fed: Fed, output: &mut MemSink) -> Ended
     requires { is_ended session.old ≡ ends_session fed }
 {
     match fed {
@@ -213,8 +208,14 @@ fn encodes(
         Some(fault) => (Ended::Fault(fault), Status::Refused(fault)),
     };
     for size in [1, 7, 100_000] {
-        assert_eq!(rt; streamed(rt, settings, bytes, size, 1 << 40)?, (status, want.stream));
-        assert_eq!(rt; fed(rt, settings, bytes, size, 1000)?, (ended, true, want.stream));
+        assert_eq!(rt;
+            streamed(rt, settings, bytes, size, 1 << 40)?,
+            (status, want.stream)
+        );
+        assert_eq!(rt;
+            fed(rt, settings, bytes, size, 1000)?,
+            (ended, true, want.stream)
+        );
     }
     Ok(())
 }
@@ -232,7 +233,12 @@ fn silence(rt: HostRuntime) -> Result<(), AllocError> {
 #[test]
 fn one_channel(rt: HostRuntime) -> Result<(), AllocError> {
     let alloc = rt.alloc();
-    encodes(&rt, PLAIN, &file(alloc, 1, 2000, 7)?, sound(302, 2_901_431_877))?;
+    encodes(
+        &rt,
+        PLAIN,
+        &file(alloc, 1, 2000, 7)?,
+        sound(302, 2_901_431_877),
+    )?;
     let long = file(alloc, 1, 16_360, 8)?;
     encodes(&rt, PLAIN, &long, sound(1337, 1_568_621_132))
 }

@@ -1,4 +1,4 @@
-use Rattle.std.proofs.Common.{◌-◌, ℕ, length}
+use Rattle.std.proofs.Common.{◌-◌, length}
 use Rattle.celt_session.proofs.EncoderWorkSteps.{Encoding}
 use Rattle.celt_session.proofs.encoder_work.encode_slots.Given as goal
 

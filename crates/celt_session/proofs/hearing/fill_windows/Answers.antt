@@ -1,4 +1,4 @@
-use Rattle.std.proofs.Common.{◌≡◌, ◌+◌, ◌*◌, ◌<◌, ◌≤◌, length, sym, ap, ◌∙◌, arith}
+use Rattle.std.proofs.Common.{length, sym, ap, ◌∙◌, arith}
 use Rattle.celt_session.specs.Hearings.{window_at}
 use Rattle.celt_session.proofs.HearingSteps.{filled_none, filled_more}
 use Rattle.celt_session.proofs.hearing.fill_windows.Goals as goal

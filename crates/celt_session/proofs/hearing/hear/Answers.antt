@@ -1,4 +1,4 @@
-use Rattle.std.proofs.Common.{◌≡◌, ℕ, ◌++◌, ◌<◌, ◌≤◌, length, take, drop, sym, ap, ◌∙◌, arith}
+use Rattle.std.proofs.Common.{◌≡◌, length, take, drop, arith}
 use Rattle.std.proofs.lemmas.List.Elements.{All-same, All-take, All-drop, All-append}
 use Rattle.celt_analysis.specs.Batches.{IsWindow}
 use Rattle.celt_session.proofs.HearingSteps.{heard_in_front}

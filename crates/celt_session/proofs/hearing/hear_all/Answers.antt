@@ -1,4 +1,4 @@
-use Rattle.std.proofs.Common.{◌≡◌, ◌<◌, ◌≤◌, length, arith, ◌∙◌, ap, sym}
+use Rattle.std.proofs.Common.{◌≡◌, length, arith, ◌∙◌, ap}
 use Rattle.celt_analysis.specs.Batches.{AreWindows}
 use Rattle.celt_session.specs.Hearings.{window_at, trail_by, pitches_of}
 use Rattle.celt_session.proofs.HearingSteps.{owns_pitches, windows_stay, sizes_stay, hears_all}

@@ -1,6 +1,6 @@
-use Rattle.std.proofs.Common.{◌≡◌, ◌+◌, ◌<◌, ◌≤◌, length, arith, ◌∙◌, ap}
+use Rattle.std.proofs.Common.{◌≡◌, length, arith, ◌∙◌, ap}
 use Rattle.celt_session.specs.Hearings.{trail_by}
-use Rattle.celt_session.proofs.HearingSteps.{Passing, passing_none, passing_more}
+use Rattle.celt_session.proofs.HearingSteps.{passing_none, passing_more}
 use Rattle.celt_session.proofs.hearing.pass_settings.Goals as goal
 
 pub loop-k-init : goal.loop-k-init

@@ -1,4 +1,4 @@
-use Rattle.std.proofs.Common.{◌≡◌, ℕ, ◌+◌, ◌*◌, ◌<◌, ◌≤◌, ◌-◌, length, take, drop, sym, ap, ◌∙◌, arith}
+use Rattle.std.proofs.Common.{◌*◌, length, take, drop, ap, ◌∙◌, arith}
 use Rattle.celt_session.specs.FrameWorks.{batch_len}
 use Rattle.celt_session.specs.Frames.{duration}
 use Rattle.celt_session.proofs.SlotSteps.{window_inside, window_start}

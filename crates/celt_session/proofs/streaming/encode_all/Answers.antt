@@ -3,12 +3,11 @@ use Rattle.std.proofs.Common.{◌≡◌, ◌+◌, ◌≤◌, [], ◌++◌, lengt
 use Rattle.std.specs.Prelude.{IfSome}
 use Rattle.std.specs.Io.KnownBytes.{Appends, Consumes}
 use Rattle.std.proofs.lemmas.List.{take_all}
-use Rattle.std.proofs.KnownBytes.{Consumes-nil, Consumes-trans, Appends-nil}
+use Rattle.std.proofs.KnownBytes.{Consumes-nil, Consumes-trans}
 use Rattle.celt_base.specs.Outside.{AppendsFront}
-use Rattle.celt_base.specs.declared.status.Status.{Status}
 use Rattle.celt_base.specs.declared.status.Status.TheVariants as statuses
 use Rattle.celt_session.specs.Encodings.{AreSettings, encoding_by, full, running}
-use Rattle.celt_session.specs.FrameSessions.{given, running_more, status_of}
+use Rattle.celt_session.specs.FrameSessions.{given, running_more}
 use Rattle.celt_session.specs.Outcomes.{wanted, Answers, WritesFront}
 use Rattle.celt_session.proofs.Finishing.{known_end, read_len}
 use Rattle.celt_session.proofs.FeedingSamples.{given_start}

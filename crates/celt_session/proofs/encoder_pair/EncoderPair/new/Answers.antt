@@ -1,4 +1,4 @@
-use Rattle.std.proofs.Common.{◌≡◌, inl, inr, refl, sym, ap, subst, ◌∙◌}
+use Rattle.std.proofs.Common.{inl, inr, refl, sym, ap, subst, ◌∙◌}
 use Rattle.std.specs.Prelude.{None}
 use Rattle.celt_session.specs.declared.encoder_pair.EncoderPair.{EncoderPair}
 use Rattle.celt_session.specs.EncoderPairs.{MakesEither}

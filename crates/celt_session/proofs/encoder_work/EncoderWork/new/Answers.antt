@@ -1,4 +1,4 @@
-use Rattle.std.proofs.Common.{◌≡◌, refl, ap}
+use Rattle.std.proofs.Common.{refl, ap}
 use Rattle.celt_encode.specs.Encoders.{new_encoder}
 use Rattle.celt_synth.proofs.StepLemmas.{off_is}
 use Rattle.celt_session.proofs.encoder_work.EncoderWork.new.Goals as goal
