@@ -8,6 +8,7 @@ pub mod MixSteps
 pub mod NearestSteps
 pub mod NumberSteps
 pub mod PlaceBands
+pub mod PlaceEvents
 pub mod PlaceFrames
 pub mod PlaceKnown
 pub mod PlaceOpenings
@@ -18,6 +19,7 @@ pub mod PlaceSettings
 pub mod PlaceShares
 pub mod PlaceSteps
 pub mod PlaceVectors
+pub mod ReadSteps
 pub mod RoomLemmas
 pub mod SpreadLemmas
 pub mod UnitLemmas

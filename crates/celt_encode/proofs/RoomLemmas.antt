@@ -90,7 +90,7 @@ unfolding silence_list
 silence_types = (tt, tt)
 
 -- what is kept is answers, where the choice is
-kept_answers : (f : Outset) → AreAnswers (chosen_list f) → FitTypes (chosen_list f) → AreAnswers (kept_of f) × FitTypes (kept_of f)
+pub kept_answers : (f : Outset) → AreAnswers (chosen_list f) → FitTypes (chosen_list f) → AreAnswers (kept_of f) × FitTypes (kept_of f)
 kept_answers f are fit = elim (cases_lt (8 * f.len) (told (chosen_list f))) [
   | inl over ↦ let e = kept_over f over in (subst AreAnswers e silence_answers, subst FitTypes e silence_types)
   | inr fits ↦ let e = kept_whole f fits in (subst AreAnswers e are, subst FitTypes e fit)

@@ -66,13 +66,13 @@ choice_list f kind len list fields h k kinds lens start w =
 
 -- ---- the silent frame
 
-abbrev hushed : ⊤ → Event → ⊤
+abbrev pub hushed : ⊤ → Event → ⊤
 hushed known event = known
 
-abbrev always_one : ⊤ → Place → ℤ
+abbrev pub always_one : ⊤ → Place → ℤ
 always_one known at = pos 1
 
-hush_choice : (kind : Kind) (len : ℕ) → answered_in (choose hushed always_one tt (frame_script kind len) first_pace).events ≡ silence_list
+pub hush_choice : (kind : Kind) (len : ℕ) → answered_in (choose hushed always_one tt (frame_script kind len) first_pace).events ≡ silence_list
 unfolding frame_script asks_bit asks_at is_one nearest_of greatest meant silence_list
 hush_choice kind len = refl
 

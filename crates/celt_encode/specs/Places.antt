@@ -1,6 +1,6 @@
 -- That what is wanted is said of each question of a frame: it is about a band and a channel that the frame has, and what was entered
 -- has the part that it is about. No guard of what is wanted is met there.
-use Rattle.std.specs.Prelude.{ℕ, suc, ◌+◌, ◌*◌, ◌/◌, ◌%◌, ◌^◌, ◌<◌, ◌≤◌, ◌≡◌, ⊤, Bool, false, true, not, ◌&&◌, ◌||◌, nat_eq, nat_le, nat_lt, ℤ, pos, negsuc, unsigned_abs, List, [], length, slice_index_or, get_or}
+use Rattle.std.specs.Prelude.{ℕ, suc, ◌+◌, ◌*◌, ◌/◌, ◌%◌, ◌^◌, ◌<◌, ◌≤◌, ◌≡◌, ⊤, Bool, false, true, not, ◌&&◌, ◌||◌, nat_eq, nat_le, nat_lt, ℤ, pos, negsuc, unsigned_abs, List, [], ◌∷◌, length, slice_index_or, get_or}
 use Rattle.celt_base.specs.declared.coder.Enter.{Enter}
 use Rattle.celt_base.specs.declared.coder.Place.{Place}
 use Rattle.celt_base.specs.declared.coder.Place.TheVariants.{Octave, Period, Gain, Coarse, Tf, Spread, Boost, Skip, Intensity, Fine, Theta, Inversion, SideSign, Pulses, Sign, Last}
@@ -9,7 +9,7 @@ use Rattle.celt_base.specs.declared.state.Setting.{Setting}
 use Rattle.celt_base.specs.Paces.{Pace}
 use Rattle.celt_base.specs.WalkCalls.{heard, meant}
 use Rattle.celt_base.specs.WalkScripts.{Script, Done, Look, Ask, Begin}
-use Rattle.celt_base.specs.Walks.{Asked}
+use Rattle.celt_base.specs.Walks.{Event, Asked, Entered}
 use Rattle.celt_tables.specs.Tables.{size_of}
 use Rattle.range_coder.specs.Nearest.{IsNearest}
 use Rattle.celt_encode.specs.declared.answers.Answers.{Answers}
@@ -133,3 +133,10 @@ AllPlaces kind s (Ask at question follow) =
     × IsPlace kind s at
     × ((answer : ℤ) → IsNearest question (meant at question (wanted s at)) answer
     → IsTold at (heard at question answer) × AllPlaces kind (noted s (Asked at question answer)) (follow answer))
+
+-- The same of the events of a list.
+abbrev pub AreMet : Kind → Standing → List Event → Type 0
+AreMet kind s [] = ⊤
+AreMet kind s (Asked at question answer ∷ events) =
+    IsKnown s.answers × IsPlace kind s at × IsTold at (heard at question answer) × AreMet kind (noted s (Asked at question answer)) events
+AreMet kind s (Entered at ∷ events) = IsKnown s.answers × IsEntered kind s at × AreMet kind (entered_in s at) events

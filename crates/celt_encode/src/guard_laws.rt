@@ -17,10 +17,10 @@ ghost use Rattle.celt_encode.specs.Changes.{joined, in_blocks, more, fewer};
 ghost use Rattle.celt_encode.specs.Codes.{code_of};
 ghost use Rattle.celt_encode.specs.Encoders.{EncoderState, outset_by, outset_for};
 ghost use Rattle.celt_encode.specs.EnergiesWanted.{target_at, coarse_energy, fine_energy};
-ghost use Rattle.celt_encode.specs.Frames.{chosen_list, kept_of, frame_of};
+ghost use Rattle.celt_encode.specs.Frames.{choice_of, chosen_list, kept_of, frame_of};
 ghost use Rattle.celt_encode.specs.Leaves.{pulses_for};
 ghost use Rattle.celt_encode.specs.Outsets.{Outset};
-ghost use Rattle.celt_encode.specs.Places.{AreRows, HasRows, HasBand, IsKnown, IsPlace, IsEntered, fit_blocks, AllPlaces};
+ghost use Rattle.celt_encode.specs.Places.{AreRows, HasRows, HasBand, IsKnown, IsPlace, IsEntered, fit_blocks, AllPlaces, AreMet};
 ghost use Rattle.celt_encode.specs.Rooms.{HasRoom};
 ghost use Rattle.celt_encode.specs.Standing.{Standing, begun, vector_in, entered_in};
 ghost use Rattle.celt_encode.specs.Vectors.{part_of, unit_in, plain_vector};
@@ -28,12 +28,14 @@ ghost use Rattle.celt_encode.specs.Wanted.{flag_of, wanted};
 
 /// The code that is computed is that of the list wherever the list tells no more bits than the frame has: a block is found, it
 /// has room before the raw bits, and the number has no more bytes than the frame. The kept answers always tell no more, where
-/// the frame has two bytes.
+/// the frame has two bytes; and the questions of a choice are always valid, with answers that they have. So every frame of two
+/// bytes or more is the code of its kept answers.
 pub fn law_room()
     ensures code { (list : List Answered) (len : ℕ) → AreAnswers list → FitTypes list → told list ≤ 8 * len → IsCode list len (code_of list len) }
     ensures room { (list : List Answered) (len : ℕ) → AreAnswers list → FitTypes list → told list ≤ 8 * len → HasRoom (interval_of list) len }
     ensures kept { (f : Outset) → 2 ≤ f.len → told (kept_of f) ≤ 8 * f.len }
-    ensures frame { (f : Outset) → 2 ≤ f.len → AreAnswers (chosen_list f) → FitTypes (chosen_list f) → IsCode (kept_of f) f.len (frame_of f) }
+    ensures answers { (f : Outset) → AreAnswers (chosen_list f) × FitTypes (chosen_list f) }
+    ensures frame { (f : Outset) → 2 ≤ f.len → IsCode (kept_of f) f.len (frame_of f) }
 {}
 
 /// What is wanted is said at each question of a frame's choice, and so is each vector that is entered: the definitions have a
@@ -41,9 +43,11 @@ pub fn law_room()
 /// band's, and the part or the two halves that are asked of lie in it; the pulses of a part are such as it may have, in blocks that
 /// divide it; an angle has two steps or more, a fine energy at most 8 bits; and the post-filter that is asked has a gain and a period
 /// in one of six octaves. A vector that is entered can take its changes. Each list of what is known has an entry for each channel
-/// and band, and what is told is kept as it is.
+/// and band, and what is told is kept as it is. That holds of the script, by whatever nearest answers, and of each event of the
+/// choice.
 pub fn law_places()
-    ensures { (f : Outset) → HasRows f → f.len ≤ 1275 → AllPlaces f.kind (begun f) (frame_script f.kind f.len) }
+    ensures script { (f : Outset) → HasRows f → f.len ≤ 1275 → AllPlaces f.kind (begun f) (frame_script f.kind f.len) }
+    ensures choice { (f : Outset) → HasRows f → f.len ≤ 1275 → AreMet f.kind (begun f) (choice_of f).events }
 {}
 
 /// At such a place none of the guards decides what is wanted.

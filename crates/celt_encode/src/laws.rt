@@ -4,11 +4,12 @@ ghost use Rattle.celt_base.specs.declared.question.Question.{Question};
 ghost use Rattle.celt_base.specs.Questions.{Answered, IsValid};
 ghost use Rattle.celt_base.specs.Walks.{Event, Adds};
 ghost use Rattle.frame_symbols.specs.Frames.{Sound, frame_script, first_pace};
+ghost use Rattle.frame_symbols.specs.Readings.{IsReading};
 ghost use Rattle.range_coder.specs.Codes.{IsCode, told};
 ghost use Rattle.range_coder.specs.Nearest.{IsNearest};
 ghost use Rattle.celt_encode.specs.Choices.{AreNearest, nearest_of};
 ghost use Rattle.celt_encode.specs.Codes.{code_of};
-ghost use Rattle.celt_encode.specs.Frames.{choice_of, chosen_list, kept_of, fell_of, silence_list};
+ghost use Rattle.celt_encode.specs.Frames.{choice_of, chosen_list, kept_of, fell_of, frame_of, silence_list};
 ghost use Rattle.celt_encode.specs.Outsets.{Outset};
 ghost use Rattle.celt_encode.specs.Standing.{begun, noted};
 ghost use Rattle.celt_encode.specs.Wanted.{wanted};
@@ -36,4 +37,9 @@ pub fn law_kept()
     ensures whole { (f : Outset) → told (chosen_list f) ≤ 8 * f.len → (kept_of f ≡ chosen_list f) × (fell_of f ≡ None) }
     ensures over { (f : Outset) → 8 * f.len < told (chosen_list f) → (kept_of f ≡ silence_list) × (fell_of f ≡ Some (told (chosen_list f))) }
     ensures silence { told silence_list ≡ 16 }
+{}
+
+/// Of two bytes and more, the encoded frame is read as just the answers that are kept.
+pub fn law_read()
+    ensures { (f : Outset) → 2 ≤ f.len → IsReading f.kind (frame_of f) (kept_of f) }
 {}

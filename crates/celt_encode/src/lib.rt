@@ -28,5 +28,5 @@ mod writing;
 
 pub use encoder::Encoder;
 pub use guard_laws::{law_entered, law_outsets, law_places, law_room, law_wanted};
-pub use laws::{law_choice, law_code, law_kept, law_nearest};
+pub use laws::{law_choice, law_code, law_kept, law_nearest, law_read};
 pub use listening_laws::{law_listening, law_unit_vectors};

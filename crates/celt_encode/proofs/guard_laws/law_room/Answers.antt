@@ -1,4 +1,5 @@
-use Rattle.celt_encode.proofs.RoomLemmas.{code_computed, has_room, kept_fits, frame_code}
+use Rattle.celt_encode.proofs.ReadSteps.{chosen_answers, chosen_types, kept_code}
+use Rattle.celt_encode.proofs.RoomLemmas.{code_computed, has_room, kept_fits}
 use Rattle.celt_encode.proofs.guard_laws.law_room.Goals as goal
 
 pub returns-clause-code : goal.returns-clause-code
@@ -11,4 +12,7 @@ pub returns-clause-kept : goal.returns-clause-kept
 returns-clause-kept c = kept_fits
 
 pub returns-clause-frame : goal.returns-clause-frame
-returns-clause-frame c = frame_code
+returns-clause-frame c = kept_code
+
+pub returns-clause-answers : goal.returns-clause-answers
+returns-clause-answers c = λ f. (chosen_answers f, chosen_types f)
