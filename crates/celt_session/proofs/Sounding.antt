@@ -13,7 +13,7 @@ use Rattle.celt_session.specs.Samples.{Target, FrameStep, decoder_after, samples
 use Rattle.celt_session.proofs.Cutting.{slice-parts, slice-none, bytes-append}
 
 module _ (step : FrameStep) where
-  after-append : (s : step.State) (t : Target) (xs ys : List Frame) → decoder_after step s t (xs ++ ys) ≡ decoder_after step (decoder_after step s t xs) t ys
+  pub after-append : (s : step.State) (t : Target) (xs ys : List Frame) → decoder_after step s t (xs ++ ys) ≡ decoder_after step (decoder_after step s t xs) t ys
   unfolding decoder_after
   after-append s t [] ys = refl
   after-append s t (x ∷ xs) ys = after-append (step.after s t x) t xs ys

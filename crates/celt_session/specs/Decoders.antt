@@ -1,26 +1,19 @@
 -- What a decoding session stands for, and what its calls add to the output.
 use Rattle.std.specs.Prelude.{ℕ, Bool, List, Option}
 use Rattle.celt_session.specs.declared.settings.DecodeSettings.{DecodeSettings}
-use Rattle.celt_session.specs.declared.choice.Choice.{Choice}
-use Rattle.celt_session.specs.declared.samples.Samples.{Samples}
-use Rattle.celt_session.specs.declared.lines.Lines.{Lines}
 use Rattle.celt_session.specs.declared.fed.Fed.{Fed}
-use Rattle.celt_session.specs.Works.{Works}
-use Rattle.celt_session.specs.Choices.{choice_work}
+use Rattle.celt_session.specs.declared.work.PageWork.{PageWork}
 use Rattle.celt_session.specs.Decoding.{start_of}
-use Rattle.celt_session.specs.PageWorks.{samples_work, lines_work}
+use Rattle.celt_session.specs.PageWorks.{page_work}
 use Rattle.celt_session.specs.Sessions.{Held, Adds, StandsFor as HeldFor, taken_by as bytes_taken}
-
-abbrev pub decode_work : Works (Choice Samples Lines)
-decode_work = choice_work samples_work lines_work
 
 pub record Decoder : Type 0 where
   pub settings : DecodeSettings
-  pub held : Held (Choice Samples Lines)
+  pub held : Held PageWork
 
 -- it was fed these bytes
 abbrev pub StandsFor : Decoder → List ℕ → Type 0
-StandsFor d bytes = HeldFor decode_work (start_of d.settings) d.held bytes
+StandsFor d bytes = HeldFor page_work (start_of d.settings) d.held bytes
 
 -- how many they are, at most
 abbrev pub taken_by : Decoder → ℕ
@@ -31,4 +24,4 @@ is_ended d = d.held.is_ended
 
 -- what a call of feed does, before which it was fed these bytes, and now those
 abbrev pub Feeds : List ℕ → List ℕ → Decoder → Option (List ℕ) → Option (List ℕ) → Fed → Type 0
-Feeds bytes now d old new answer = Adds decode_work (start_of d.settings) bytes now d.held old new answer
+Feeds bytes now d old new answer = Adds page_work (start_of d.settings) bytes now d.held old new answer

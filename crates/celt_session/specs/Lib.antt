@@ -8,13 +8,16 @@ pub mod EncoderPairs
 pub mod EncoderWorks
 pub mod Encoding
 pub mod Encodings
+pub mod FrameBatches
 pub mod FrameFunctions
 pub mod FrameSessions
 pub mod FrameWorks
 pub mod Framers
 pub mod Frames
 pub mod Hearings
+pub mod Keeping
 pub mod Lines
+pub mod Lockstep
 pub mod Makers
 pub mod Outcomes
 pub mod Packers

@@ -1,7 +1,11 @@
 -- The lines of `ranges`: one for each frame of each accepted page, with its number, its length in bytes and its final range.
-use Rattle.std.specs.Prelude.{ℕ, ◌+◌, List, [], ◌∷◌, ◌++◌, length, if◌then◌else◌}
+use Rattle.std.specs.Prelude.{◌≡◌, ℕ, ◌+◌, List, [], ◌∷◌, ◌++◌, length, if◌then◌else◌, Option, Result, Ok, Err}
 use Rattle.std.specs.Fmt.{decimal}
+use Rattle.std.specs.Io.KnownBytes.{Appends}
 use Rattle.celt_base.specs.declared.kind.Kind.{Kind}
+use Rattle.celt_base.specs.declared.outside.Failed.{Failed}
+use Rattle.celt_base.specs.Outside.{AppendsFront}
+use Rattle.frame_symbols.specs.Readings.{range_of}
 use Rattle.celt_session.specs.PageFunctions.{PageFunction}
 use Rattle.celt_session.specs.Frames.{Frame, is_concealed, page_frames}
 use Rattle.celt_session.specs.Texts.{hex_digits}
@@ -32,3 +36,8 @@ lines_function range_of = record {
   next = λ s page. record { pages = s.pages + 1; frames = s.frames + length (page_frames page.packets) };
   says = λ s page. lines_from range_of s.frames (page_frames page.packets);
 }
+
+-- the lines of frames were written, the first of which has this number, and the number behind them is answered
+abbrev pub WritesLines : ℕ → List Frame → Option (List ℕ) → Option (List ℕ) → Result ℕ Failed → Type 0
+WritesLines first frames old new (Ok next) = (next ≡ first + length frames) × Appends old new (lines_from range_of first frames)
+WritesLines first frames old new (Err failure) = AppendsFront old new (lines_from range_of first frames)

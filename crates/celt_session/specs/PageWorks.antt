@@ -1,19 +1,18 @@
 -- The two works on pages: samples and lines.
-use Rattle.std.specs.Prelude.{◌≡◌, nat_eq, true, false, ℕ, ◌+◌, ◌/◌, max, List, length, Option, Result, Ok, Err}
-use Rattle.std.specs.Io.KnownBytes.{Appends}
+use Rattle.std.specs.Prelude.{◌≡◌, ◌⊎◌, nat_eq, true, false, ℕ, ◌+◌, ◌/◌, max, List, Option, Result}
+use Rattle.std.proofs.Common.{inl, inr}
 use Rattle.celt_base.specs.declared.outside.Failed.{Failed}
-use Rattle.celt_base.specs.Outside.{AppendsFront}
 use Rattle.celt_session.specs.declared.samples.Samples.{Samples}
 use Rattle.celt_session.specs.declared.lines.Lines.{Lines}
+use Rattle.celt_session.specs.declared.work.PageWork.{PageWork}
+use Rattle.celt_session.specs.declared.work.PageWork.TheVariants as works
 use Rattle.celt_synth.specs.Decoders.{with_state}
 use Rattle.opus_stream.specs.declared.answers.Span.{Span}
 use Rattle.celt_session.specs.declared.playing.Playing.{Playing}
 use Rattle.celt_session.specs.Playing.{Plays, target_for}
 use Rattle.celt_session.specs.Works.{Works}
 use Rattle.celt_session.specs.Frames.{Frame}
-use Rattle.celt_session.specs.Lines.{lines_from}
-use Rattle.frame_symbols.specs.Readings.{range_of}
-use Rattle.celt_session.specs.Decoding.{samples, lines}
+use Rattle.celt_session.specs.Decoding.{samples, lines, decoding_function}
 
 pub record ShowsSamples (w : Samples) (s : samples.State) : Type 0 where
   pub pages : w.pages ≡ s.pages
@@ -40,7 +39,18 @@ pages_of w = max w.pages ((w.frames + 12239) / 12240)
 abbrev pub lines_work : Works Lines
 lines_work = record { function = lines; Shows = ShowsLines; count = pages_of }
 
--- the lines of frames were written, the first of which has this number, and the number behind them is answered
-abbrev pub WritesLines : ℕ → List Frame → Option (List ℕ) → Option (List ℕ) → Result ℕ Failed → Type 0
-WritesLines first frames old new (Ok next) = (next ≡ first + length frames) × Appends old new (lines_from range_of first frames)
-WritesLines first frames old new (Err failure) = AppendsFront old new (lines_from range_of first frames)
+-- ---- ONE OF THE TWO
+
+abbrev pub ShowsPages : PageWork → samples.State ⊎ lines.State → Type 0
+ShowsPages (works.Samples w) (inl s) = ShowsSamples w s
+ShowsPages (works.Samples w) (inr s) = ⊥
+ShowsPages (works.Lines w) (inl s) = ⊥
+ShowsPages (works.Lines w) (inr s) = ShowsLines w s
+
+-- how many pages it worked on, at most
+abbrev pub pages_in : PageWork → ℕ
+pages_in (works.Samples w) = w.pages
+pages_in (works.Lines w) = pages_of w
+
+abbrev pub page_work : Works PageWork
+page_work = record { function = decoding_function; Shows = ShowsPages; count = pages_in }

@@ -8,9 +8,10 @@ use Rattle.celt_synth.specs.Readings.{frame_step}
 use Rattle.celt_synth.specs.States.{State, start}
 use Rattle.celt_synth.specs.Steps.{Stepped}
 use Rattle.opus_stream.specs.declared.answers.Span.{Span}
+use Rattle.opus_stream.specs.Readers.{Reader}
 use Rattle.celt_session.specs.declared.playing.Playing.{Playing}
 use Rattle.celt_session.specs.Frames.{Frame}
-use Rattle.celt_session.specs.Samples.{Target, FrameStep, text_of, Sounds}
+use Rattle.celt_session.specs.Samples.{Target, FrameStep, text_of, Sounds, channels_in, gain_in}
 
 -- The step of one decoder: the frame step with the channels, the gain and the inversion of the target.
 abbrev pub decoder_step : FrameStep
@@ -26,6 +27,10 @@ played_by d kind frame gain = frame_step d.channels d.invert kind frame gain d.s
 
 abbrev pub target_for : Decoder → Playing → Target
 target_for d p = record { channels = p.channels; gain = p.gain; invert = d.invert }
+
+-- how the frames of the page that a reader gave last are played
+abbrev pub playing_in : Reader → Playing
+playing_in r = record { channels = channels_in r.progress.head; gain = gain_in r.progress.head; span = r.given.written }
 
 -- the decoder is one for these channels, and the gain is a header's
 pub record IsPlaying (d : Decoder) (p : Playing) : Type 0 where

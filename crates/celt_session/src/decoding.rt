@@ -1,18 +1,17 @@
 //! Decoding of a stream: over a source and a sink, and as a session that is fed pieces.
 ghost use Rattle.std.specs.Prelude.{◌≡◌, ◌≢◌, ◌^◌, ◌≤◌, IfOk, IfSome};
 ghost use Rattle.celt_base.specs.Outside.{Rose};
-ghost use Rattle.celt_session.specs.Choices.{choice_shows, choice_count};
-ghost use Rattle.celt_session.specs.PageWorks.{samples_work, lines_work};
+ghost use Rattle.celt_session.specs.PageWorks.{ShowsPages, pages_in};
 ghost use Rattle.celt_session.specs.Decoding.{sampling, start_of, decoding};
 ghost use Rattle.celt_session.specs.Outcomes.{wanted, Answers, Writes};
 
-use crate::choice::Choice;
 use crate::fed::Fed;
 use crate::lines::Lines;
 use crate::samples::Samples;
 use crate::session::Session;
 use crate::settings::{DecodeSettings, Form};
 use crate::stream::work_stream;
+use crate::work::PageWork;
 use celt_base::outside::{Gate, Sink, Source};
 use celt_base::status::{Fault, OutOfMemory, Status};
 use std::alloc::Global;
@@ -24,26 +23,26 @@ fn samples_for(
     alloc: Global,
     has_header: bool,
     invert: bool,
-) -> Result<Choice<Samples, Lines>, OutOfMemory>
-    ensures shows { IfOk result (λ work. choice_shows samples_work lines_work work (sampling has_header invert)) }
-    ensures new { IfOk result (λ work. choice_count samples_work lines_work work ≡ 0) }
+) -> Result<PageWork, OutOfMemory>
+    ensures shows { IfOk result (λ work. ShowsPages work (sampling has_header invert)) }
+    ensures new { IfOk result (λ work. pages_in work ≡ 0) }
 {
     match Samples::new(alloc, has_header, invert) {
-        Ok(samples) => Ok(Choice::First(samples)),
+        Ok(samples) => Ok(PageWork::Samples(samples)),
         Err(_) => Err(OutOfMemory),
     }
 }
 
 /// What the settings ask for, before the first page.
-fn work_of(alloc: Global, settings: DecodeSettings) -> Result<Choice<Samples, Lines>, OutOfMemory>
-    ensures shows { IfOk result (λ work. choice_shows samples_work lines_work work (start_of settings)) }
-    ensures new { IfOk result (λ work. choice_count samples_work lines_work work ≡ 0) }
+fn work_of(alloc: Global, settings: DecodeSettings) -> Result<PageWork, OutOfMemory>
+    ensures shows { IfOk result (λ work. ShowsPages work (start_of settings)) }
+    ensures new { IfOk result (λ work. pages_in work ≡ 0) }
 {
     match settings.form {
         Form::Wav => samples_for(alloc, true, settings.invert),
         Form::Plain => samples_for(alloc, false, settings.invert),
         Form::Ranges => match Lines::new(alloc) {
-            Ok(lines) => Ok(Choice::Second(lines)),
+            Ok(lines) => Ok(PageWork::Lines(lines)),
             Err(_) => Err(OutOfMemory),
         },
     }
@@ -80,7 +79,7 @@ pub fn decode_stream<R: Threads, S: Source, K: Sink, G: Gate>(
 #[derive(Drop)]
 pub struct DecodeSession {
     settings: DecodeSettings,
-    session: Session<Choice<Samples, Lines>>,
+    session: Session,
 }
 
 impl Model for DecodeSession {

@@ -3,6 +3,8 @@ ghost use Rattle.std.specs.Prelude.{◌≡◌, ◌+◌, ◌≤◌, ◌<◌, ◌^
 ghost use Rattle.celt_base.specs.Outside.{HasCause};
 ghost use Rattle.ogg_pages.specs.Fields.{Page};
 ghost use Rattle.opus_stream.specs.Readers.{bytes_fed, bytes_held};
+ghost use Rattle.celt_session.specs.Decoding.{decoding_function};
+ghost use Rattle.celt_session.specs.PageWorks.{page_work, pages_in};
 ghost use Rattle.celt_session.specs.Sessions.{Along, IsFed, Gives, Feeds};
 
 use crate::work::PageWork;
@@ -12,19 +14,19 @@ use opus_stream::{Accept, StreamReader};
 use std::thread::Threads;
 
 /// Works on every page that is accepted of the bytes so far, and answers the fault behind them.
-pub(crate) fn give_pages<W: PageWork, R: Threads, K: Sink, G: Gate>(
+pub(crate) fn give_pages<R: Threads, K: Sink, G: Gate>(
     rt: &R,
     reader: &mut StreamReader,
-    work: &mut W,
+    work: &mut PageWork,
     output: &mut K,
     gate: &G,
 ) -> Result<Option<Fault>, Failed>
-    requires few { W.work.count work.old + bytes_held reader.old ≤ 2 ^ 40 }
-    ensures gives { (start : W.work.function.State) (bytes : List ℕ) (front : List Page) → Along W.work start reader.old work.old bytes front →
-        Gives W.work start bytes front reader.new work.new (K.held output.old) (K.held output.new) result }
+    requires few { pages_in work.old + bytes_held reader.old ≤ 2 ^ 40 }
+    ensures gives { (start : decoding_function.State) (bytes : List ℕ) (front : List Page) → Along page_work start reader.old work.old bytes front →
+        Gives page_work start bytes front reader.new work.new (K.held output.old) (K.held output.new) result }
     ensures settled { result ≡ Ok None → reader.new.is_settled ≡ true }
     ensures fed { bytes_fed reader.new ≡ bytes_fed reader.old }
-    ensures few { W.work.count work.new + bytes_held reader.new ≤ W.work.count work.old + bytes_held reader.old }
+    ensures few { pages_in work.new + bytes_held reader.new ≤ pages_in work.old + bytes_held reader.old }
     ensures cause { HasCause (K.faults output.old) (K.faults output.new) result }
 {
     'pages: loop {
@@ -41,21 +43,21 @@ pub(crate) fn give_pages<W: PageWork, R: Threads, K: Sink, G: Gate>(
 }
 
 /// Feeds a piece, and works on every page that is accepted of the bytes so far.
-pub(crate) fn feed_piece<W: PageWork, R: Threads, K: Sink, G: Gate>(
+pub(crate) fn feed_piece<R: Threads, K: Sink, G: Gate>(
     rt: &R,
     reader: &mut StreamReader,
-    work: &mut W,
+    work: &mut PageWork,
     piece: &[u8],
     output: &mut K,
     gate: &G,
 ) -> Result<Option<Fault>, Failed>
     requires settled { reader.old.is_settled ≡ true }
-    requires few { W.work.count work.old + bytes_held reader.old ≤ bytes_fed reader.old }
+    requires few { pages_in work.old + bytes_held reader.old ≤ bytes_fed reader.old }
     requires limit { bytes_fed reader.old + length piece.now ≤ 2 ^ 40 }
-    ensures feeds { (start : W.work.function.State) (bytes : List ℕ) → IsFed W.work start reader.old work.old bytes →
-        Feeds W.work start bytes (bytes ++ piece.now) reader.new work.new (K.held output.old) (K.held output.new) result }
+    ensures feeds { (start : decoding_function.State) (bytes : List ℕ) → IsFed page_work start reader.old work.old bytes →
+        Feeds page_work start bytes (bytes ++ piece.now) reader.new work.new (K.held output.old) (K.held output.new) result }
     ensures settled { result ≡ Ok None → reader.new.is_settled ≡ true }
-    ensures few { result ≡ Ok None → W.work.count work.new + bytes_held reader.new ≤ bytes_fed reader.new }
+    ensures few { result ≡ Ok None → pages_in work.new + bytes_held reader.new ≤ bytes_fed reader.new }
     ensures fed { bytes_fed reader.new ≤ bytes_fed reader.old + length piece.now }
     ensures cause { HasCause (K.faults output.old) (K.faults output.new) result }
 {

@@ -4,7 +4,6 @@
 
 mod batch;
 mod batching;
-mod choice;
 mod coding;
 mod concluding;
 mod decoding;
@@ -17,13 +16,18 @@ mod ended;
 mod ending;
 mod fed;
 mod feeding;
+mod frame_batch;
 mod frame_session;
 mod framer;
+#[cfg(test)]
+mod gate_tests;
 mod given_laws;
 mod giving;
 mod hearing;
+mod kept_laws;
 mod laws;
 mod lines;
+mod lockstep_laws;
 mod maker;
 mod making;
 mod memory;
@@ -55,7 +59,9 @@ pub use encoding_laws::{law_frames, law_stream_goes_on, law_wave_fault_stays};
 pub use ended::Ended;
 pub use fed::Fed;
 pub use given_laws::{law_given_goes_on, law_given_packets};
+pub use kept_laws::{law_decoded_length, law_samples_kept};
 pub use laws::{law_failed_write, law_fault_stays, law_pieces, law_running_goes_on};
+pub use lockstep_laws::law_in_step;
 pub use settings::{DecodeSettings, Form, Settings};
 pub use streaming::encode_stream;
 

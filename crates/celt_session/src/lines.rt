@@ -4,19 +4,16 @@ ghost use Rattle.celt_base.specs.Ends.{is_band_end, end_of_config};
 ghost use Rattle.celt_base.specs.Outside.{HasCause, WritesAll};
 ghost use Rattle.frame_symbols.specs.Readings.{range_of};
 ghost use Rattle.celt_session.specs.Pages.{Heard, IsGiven};
-ghost use Rattle.celt_session.specs.Frames.{is_concealed, kind_of as kind_for, packet_frames, page_frames};
-ghost use Rattle.celt_session.specs.Lines.{line_of};
-ghost use Rattle.celt_session.specs.Works.{Worked};
-ghost use Rattle.celt_session.specs.Decoding.{lines};
-ghost use Rattle.celt_session.specs.PageWorks.{lines_work, ShowsLines, WritesLines, pages_of};
+ghost use Rattle.celt_session.specs.Frames.{is_concealed, kind_of as kind_for, page_frames};
+ghost use Rattle.celt_session.specs.FrameBatches.{HasBatchRooms, HoldsReading, IsRead, frames_in};
+ghost use Rattle.celt_session.specs.Lines.{line_of, WritesLines};
 
+use crate::frame_batch::{FIRST, FrameBatch, HeldFrame};
 use crate::text::{put_byte, put_decimal, put_hex};
-use crate::work::PageWork;
 use celt_base::kind::Kind;
 use celt_base::outside::{Failed, Gate, Sink};
 use celt_base::status::OutOfMemory;
-use frame_symbols::{Symbols, read_frame};
-use opus_packets::{Frames, split};
+use opus_packets::Frames;
 use opus_stream::StreamReader;
 use std::alloc::Global;
 use std::thread::Threads;
@@ -31,8 +28,9 @@ pub(crate) struct Lines {
     pages: u64,
     /// How many frames they have.
     frames: u64,
-    /// The room for what is read of a frame.
-    symbols: Symbols,
+    /// The room for the frames that are read at once.
+    batch: FrameBatch,
+    ghost rooms: { HasBatchRooms batch },
 }
 
 impl Lines {
@@ -41,11 +39,11 @@ impl Lines {
         ensures pages { IfOk result (λ lines. lines.pages ≡ 0) }
         ensures frames { IfOk result (λ lines. lines.frames ≡ 0) }
     {
-        match Symbols::new(alloc) {
-            Ok(symbols) => Ok(Lines {
+        match FrameBatch::new(alloc) {
+            Ok(batch) => Ok(Lines {
                 pages: 0,
                 frames: 0,
-                symbols,
+                batch,
             }),
             Err(_) => Err(OutOfMemory),
         }
@@ -81,15 +79,14 @@ pub(crate) fn kind_of(frames: &Frames) -> Kind
 }
 
 /// The final range of a frame; 0 where it is concealed.
-fn final_range(frame: &[u8], kind: Kind, symbols: &mut Symbols) -> u32
-    requires { length frame.now ≤ 1275 }
-    ensures { result ≡ (if is_concealed frame.now then 0 else range_of kind frame.now) }
+fn final_range(frame: HeldFrame) -> u32
+    requires { HoldsReading frame.kind frame.bytes.now frame.symbols.now }
+    ensures { result ≡ (if is_concealed frame.entry.bytes.now then 0 else range_of frame.entry.kind frame.entry.bytes.now) }
 {
-    if frame.len() < 2 {
+    if frame.bytes.len() < 2 {
         return 0;
     }
-    read_frame(frame, kind, symbols);
-    symbols.range()
+    frame.symbols.range()
 }
 
 /// Puts the line of a frame, and answers its length.
@@ -107,83 +104,83 @@ fn put_line(out: &mut [u8; LINE_LEN], number: u64, len: usize, range: u32) -> us
 }
 
 /// Writes the line of a frame.
-fn write_line<K: Sink>(
-    number: u64,
-    frame: &[u8],
-    kind: Kind,
-    symbols: &mut Symbols,
-    output: &mut K,
-) -> Result<(), Failed>
-    requires short { length frame.now ≤ 1275 }
+fn write_line<K: Sink>(number: u64, frame: HeldFrame, output: &mut K) -> Result<(), Failed>
+    requires short { length frame.bytes.now ≤ 1275 }
+    requires read { HoldsReading frame.kind frame.bytes.now frame.symbols.now }
     ensures bytes { WritesAll (K.held output.old) (K.held output.new) result
-        (line_of number (length frame.now) (if is_concealed frame.now then 0 else range_of kind frame.now)) }
+        (line_of number (length frame.entry.bytes.now) (if is_concealed frame.entry.bytes.now then 0 else range_of frame.entry.kind frame.entry.bytes.now)) }
     ensures cause { HasCause (K.faults output.old) (K.faults output.new) result }
 {
-    let range = final_range(frame, kind, symbols);
+    let range = final_range(frame);
     let mut line = [0; LINE_LEN];
-    let len = put_line(&mut line, number, frame.len(), range);
+    let len = put_line(&mut line, number, frame.bytes.len(), range);
     let (text, _) = line.split_at(len);
     output.write_all(text)
 }
 
-/// Writes the lines of the frames of a packet, the first of which has this number, and answers the number behind
+/// Writes the lines of the frames of a batch, the first of which has this number, and answers the number behind
 /// them.
-fn write_packet<K: Sink>(
-    first: u64,
-    packet: &[u8],
-    symbols: &mut Symbols,
-    output: &mut K,
-) -> Result<u64, Failed>
+fn write_batch<K: Sink>(first: u64, batch: &FrameBatch, output: &mut K) -> Result<u64, Failed>
     requires few { first < 2 ^ 60 }
-    ensures lines { WritesLines first (packet_frames packet.now) (K.held output.old) (K.held output.new) result }
+    requires rooms { HasBatchRooms batch.now }
+    requires read { IsRead batch.now }
+    ensures lines { WritesLines first (frames_in batch.now) (K.held output.old) (K.held output.new) result }
     ensures cause { HasCause (K.faults output.old) (K.faults output.new) result }
-    ensures few { IfOk result (λ next. next ≤ first + 48) }
+    ensures few { IfOk result (λ next. next ≡ first + batch.now.count) }
 {
-    let Ok(frames) = split(packet) else {
-        return Ok(first);
-    };
-    let kind = kind_of(&frames);
-    for i in 0..frames.len() {
+    for i in 0..batch.len() {
         let number = first + i as u64;
-        let Ok(()) = write_line(number, frames.frame(i), kind, symbols, output) else {
+        let Ok(()) = write_line(number, batch.frame(i), output) else {
             return Err(Failed);
         };
     }
-    Ok(first + frames.len() as u64)
+    Ok(first + batch.len() as u64)
 }
 
-/// Writes the lines of the frames of the page that was given last, and answers the number behind them.
-fn write_page<K: Sink>(
+/// Writes the lines of the frames of the page that was given last, batch by batch, and answers the number behind
+/// them.
+fn write_page<R: Threads, K: Sink, G: Gate>(
+    rt: &R,
     first: u64,
     reader: &StreamReader,
-    symbols: &mut Symbols,
+    batch: &mut FrameBatch,
     output: &mut K,
+    gate: &G,
 ) -> Result<u64, Failed>
     requires few { first < 2 ^ 59 }
+    requires rooms { HasBatchRooms batch.old }
+    ensures rooms { HasBatchRooms batch.new }
     ensures lines { (heard : Heard) → IsGiven reader.now heard →
         WritesLines first (page_frames heard.packets) (K.held output.old) (K.held output.new) result }
     ensures cause { HasCause (K.faults output.old) (K.faults output.new) result }
     ensures few { IfOk result (λ next. next ≤ first + 12240) }
 {
     let mut number = first;
-    for i in 0..reader.packets() {
-        number = match write_packet(number, reader.packet(i), symbols, output) {
+    let mut place = FIRST;
+    'batches: loop {
+        place = batch.fill(rt, reader, place, gate);
+        if batch.len() == 0 {
+            return Ok(number);
+        }
+        number = match write_batch(number, batch, output) {
             Ok(next) => next,
             Err(_) => return Err(Failed),
         };
     }
-    Ok(number)
 }
 
-impl PageWork for Lines {
-    ghost work = { lines_work };
+impl Lines {
+    ghost use Rattle.celt_session.specs.Works.{Worked};
+    ghost use Rattle.celt_session.specs.Decoding.{lines};
+    ghost use Rattle.celt_session.specs.PageWorks.{lines_work, ShowsLines, pages_of};
 
-    fn page<R: Threads, K: Sink, G: Gate>(
+    /// Writes the lines of the frames of the page that was given last.
+    pub(crate) fn page<R: Threads, K: Sink, G: Gate>(
         &mut self,
-        _rt: &R,
+        rt: &R,
         reader: &StreamReader,
         output: &mut K,
-        _gate: &G,
+        gate: &G,
     ) -> Result<(), Failed>
         requires few { pages_of self.old < 2 ^ 40 }
         ensures works { (s : lines.State) (heard : Heard) → ShowsLines self.old s → IsGiven reader.now heard →
@@ -191,7 +188,7 @@ impl PageWork for Lines {
         ensures cause { HasCause (K.faults output.old) (K.faults output.new) result }
         ensures count { pages_of self.new ≤ pages_of self.old + 1 }
     {
-        match write_page(self.frames, reader, &mut self.symbols, output) {
+        match write_page(rt, self.frames, reader, &mut self.batch, output, gate) {
             Ok(frames) => {
                 self.frames = frames;
                 self.pages += 1;

@@ -3,20 +3,20 @@ ghost use Rattle.std.specs.Prelude.{◌≡◌, ◌+◌, ◌-◌, ◌*◌, ◌^�
 ghost use Rattle.std.specs.List.{slice_range};
 ghost use Rattle.celt_base.specs.Outside.{HasCause, WritesAll};
 ghost use Rattle.celt_session.specs.Pages.{Heard, IsGiven};
-ghost use Rattle.celt_session.specs.Frames.{framed, packet_frames, page_frames};
+ghost use Rattle.celt_session.specs.Frames.{framed, page_frames};
+ghost use Rattle.celt_session.specs.FrameBatches.{HasBatchRooms, HoldsReading, IsRead, frames_in};
 ghost use Rattle.wav_edge.specs.Samples.{bytes_of};
 ghost use Rattle.celt_synth.specs.Decoders.{with_state};
 ghost use Rattle.wav_edge.specs.Spellings.{header};
 ghost use Rattle.celt_session.specs.Samples.{channels_in, gain_in};
-ghost use Rattle.celt_session.specs.Playing.{IsPlaying, Plays, played_by, target_for};
+ghost use Rattle.celt_session.specs.Playing.{IsPlaying, Plays, played_by, playing_in, target_for};
 
-use crate::lines::kind_of;
-use celt_base::kind::Kind;
-use celt_base::outside::{Failed, Sink};
+use crate::frame_batch::{FIRST, FrameBatch, HeldFrame};
+use celt_base::outside::{Failed, Gate, Sink};
 use celt_synth::Decoder;
-use frame_symbols::{Symbols, read_frame};
-use opus_packets::{Head, split};
+use opus_packets::Head;
 use opus_stream::{Span, StreamReader};
+use std::thread::Threads;
 use wav_edge::samples::from_samples;
 use wav_edge::written::write_header;
 
@@ -78,76 +78,63 @@ fn span_behind(span: Span, count: u64) -> Span
     }
 }
 
-/// The frame step: a frame of 2 bytes or more is read and sounds, a shorter one is concealed.
-fn play_frame(
-    decoder: &mut Decoder,
-    frame: &[u8],
-    kind: Kind,
-    gain: i32,
-    symbols: &mut Symbols,
-    out: &mut [i16],
-)
-    requires short { length frame.now ≤ 1275 }
+/// The frame step: a frame of 2 bytes or more sounds as it was read, a shorter one is concealed.
+fn play_frame(decoder: &mut Decoder, frame: HeldFrame, gain: i32, out: &mut [i16])
+    requires read { HoldsReading frame.kind frame.bytes.now frame.symbols.now }
     requires gain { unsigned_abs gain ≤ 32768 }
-    requires out { length out.old ≡ 120 * 2 ^ kind.lm * decoder.old.channels }
-    ensures state { decoder.new ≡ with_state decoder.old (played_by decoder.old kind frame.now gain).state }
-    ensures samples { out.new ≡ (played_by decoder.old kind frame.now gain).samples }
+    requires out { length out.old ≡ 120 * 2 ^ frame.kind.lm * decoder.old.channels }
+    ensures state { decoder.new ≡ with_state decoder.old (played_by decoder.old frame.entry.kind frame.entry.bytes.now gain).state }
+    ensures samples { out.new ≡ (played_by decoder.old frame.entry.kind frame.entry.bytes.now gain).samples }
 {
-    if frame.len() < 2 {
-        return decoder.conceal(kind, gain, out);
+    if frame.bytes.len() < 2 {
+        return decoder.conceal(frame.kind, gain, out);
     }
-    read_frame(frame, kind, symbols);
-    decoder.frame(kind, symbols, gain, out);
+    decoder.frame(frame.kind, frame.symbols, gain, out);
 }
 
 /// Plays a frame, and answers the span that is left behind it.
 fn write_frame<K: Sink>(
     decoder: &mut Decoder,
-    frame: &[u8],
-    kind: Kind,
+    frame: HeldFrame,
     playing: Playing,
-    symbols: &mut Symbols,
     output: &mut K,
 ) -> Result<Span, Failed>
-    requires short { length frame.now ≤ 1275 }
+    requires read { HoldsReading frame.kind frame.bytes.now frame.symbols.now }
     requires playing { IsPlaying decoder.old playing }
     ensures same { decoder.new ≡ with_state decoder.old decoder.new.state }
-    ensures plays { Plays decoder.old (target_for decoder.old playing) (framed kind frame.now ∷ []) playing.span
+    ensures plays { Plays decoder.old (target_for decoder.old playing) (framed frame.entry.kind frame.entry.bytes.now ∷ []) playing.span
         decoder.new (K.held output.old) (K.held output.new) result }
     ensures cause { HasCause (K.faults output.old) (K.faults output.new) result }
 {
-    let count = 120 << kind.lm;
+    let count = 120 << frame.kind.lm;
     let mut room = [0i16; 1920];
     let (samples, _) = room.split_at_mut(count * usize::from(playing.channels));
-    play_frame(decoder, frame, kind, playing.gain, symbols, samples);
+    play_frame(decoder, frame, playing.gain, samples);
     match write_cut(samples, playing.channels, playing.span, output) {
         Ok(()) => Ok(span_behind(playing.span, count as u64)),
         Err(_) => Err(Failed),
     }
 }
 
-/// Plays the frames of a packet, and answers the span that is left behind them.
-fn write_packet<K: Sink>(
+/// Plays the frames of a batch in order, and answers the span that is left behind them.
+fn write_batch<K: Sink>(
     decoder: &mut Decoder,
-    packet: &[u8],
+    batch: &FrameBatch,
     playing: Playing,
-    symbols: &mut Symbols,
     output: &mut K,
 ) -> Result<Span, Failed>
+    requires rooms { HasBatchRooms batch.now }
+    requires read { IsRead batch.now }
     requires playing { IsPlaying decoder.old playing }
     ensures same { decoder.new ≡ with_state decoder.old decoder.new.state }
-    ensures plays { Plays decoder.old (target_for decoder.old playing) (packet_frames packet.now) playing.span
+    ensures plays { Plays decoder.old (target_for decoder.old playing) (frames_in batch.now) playing.span
         decoder.new (K.held output.old) (K.held output.new) result }
     ensures cause { HasCause (K.faults output.old) (K.faults output.new) result }
 {
     let mut span = playing.span;
-    let Ok(frames) = split(packet) else {
-        return Ok(span);
-    };
-    let kind = kind_of(&frames);
-    for i in 0..frames.len() {
+    for i in 0..batch.len() {
         let now = Playing { span, ..playing };
-        span = match write_frame(decoder, frames.frame(i), kind, now, symbols, output) {
+        span = match write_frame(decoder, batch.frame(i), now, output) {
             Ok(next) => next,
             Err(_) => return Err(Failed),
         };
@@ -155,30 +142,38 @@ fn write_packet<K: Sink>(
     Ok(span)
 }
 
-/// Plays the frames of the page that was given last.
-pub(crate) fn write_page<K: Sink>(
+/// Plays the frames of the page that was given last, batch by batch.
+pub(crate) fn write_page<R: Threads, K: Sink, G: Gate>(
+    rt: &R,
     decoder: &mut Decoder,
     reader: &StreamReader,
-    playing: Playing,
-    symbols: &mut Symbols,
+    batch: &mut FrameBatch,
     output: &mut K,
+    gate: &G,
 ) -> Result<Span, Failed>
-    requires playing { IsPlaying decoder.old playing }
+    requires rooms { HasBatchRooms batch.old }
+    requires playing { IsPlaying decoder.old (playing_in reader.now) }
+    ensures rooms { HasBatchRooms batch.new }
     ensures same { decoder.new ≡ with_state decoder.old decoder.new.state }
     ensures plays { (heard : Heard) → IsGiven reader.now heard →
-        Plays decoder.old (target_for decoder.old playing) (page_frames heard.packets) playing.span
+        Plays decoder.old (target_for decoder.old (playing_in reader.now)) (page_frames heard.packets) (playing_in reader.now).span
         decoder.new (K.held output.old) (K.held output.new) result }
     ensures cause { HasCause (K.faults output.old) (K.faults output.new) result }
 {
+    let playing = playing_of(reader);
     let mut span = playing.span;
-    for i in 0..reader.packets() {
+    let mut place = FIRST;
+    'batches: loop {
+        place = batch.fill(rt, reader, place, gate);
+        if batch.len() == 0 {
+            return Ok(span);
+        }
         let now = Playing { span, ..playing };
-        span = match write_packet(decoder, reader.packet(i), now, symbols, output) {
+        span = match write_batch(decoder, batch, now, output) {
             Ok(next) => next,
             Err(_) => return Err(Failed),
         };
     }
-    Ok(span)
 }
 
 /// The number of channels of the stream.
@@ -205,6 +200,7 @@ fn gain_of(head: Option<Head>) -> i32
 
 /// How the frames of the page that was given last are played.
 pub(crate) fn playing_of(reader: &StreamReader) -> Playing
+    ensures is { result ≡ playing_in reader.now }
     ensures value { (heard : Heard) → IsGiven reader.now heard →
         result ≡ record { channels = channels_in heard.head; gain = gain_in heard.head; span = heard.span } }
     ensures one_or_two { (result.channels ≡ 1) ⊎ (result.channels ≡ 2) }

@@ -1,12 +1,12 @@
 //! The samples of a stream, as a WAV file or alone.
 ghost use Rattle.std.specs.Prelude.{◌≡◌};
+ghost use Rattle.celt_session.specs.FrameBatches.{HasBatchRooms};
 
-use crate::playing::{Playing, playing_of, write_opening, write_page};
-use crate::work::PageWork;
+use crate::frame_batch::FrameBatch;
+use crate::playing::{playing_of, write_opening, write_page};
 use celt_base::outside::{Failed, Gate, Sink};
 use celt_base::status::OutOfMemory;
 use celt_synth::Decoder;
-use frame_symbols::Symbols;
 use opus_stream::{Span, StreamReader};
 use std::alloc::Global;
 use std::thread::Threads;
@@ -22,19 +22,22 @@ pub(crate) struct Samples {
     mono: Decoder,
     /// The decoder of a stream of two channels.
     stereo: Decoder,
-    /// The room for what is read of a frame.
-    symbols: Symbols,
+    /// The room for the frames that are read at once.
+    batch: FrameBatch,
+    ghost rooms: { HasBatchRooms batch },
     ghost one: { mono.channels ≡ 1 },
     ghost two: { stereo.channels ≡ 2 },
 }
 
 impl Samples {
-    ghost use Rattle.std.specs.Prelude.{◌≡◌, ◌≤◌, ◌⊎◌, unsigned_abs, IfOk};
+    ghost use Rattle.std.specs.Prelude.{◌≡◌, ◌+◌, ◌^◌, ◌<◌, ◌≤◌, IfOk};
     ghost use Rattle.celt_base.specs.Outside.{HasCause};
     ghost use Rattle.celt_session.specs.Pages.{Heard, IsGiven};
     ghost use Rattle.celt_session.specs.Frames.{page_frames};
-    ghost use Rattle.celt_session.specs.PageWorks.{ShowsSamples, PlaysChosen};
-    ghost use Rattle.celt_session.specs.Decoding.{playing as start_of_samples};
+    ghost use Rattle.celt_session.specs.Works.{Worked};
+    ghost use Rattle.celt_session.specs.Playing.{playing_in};
+    ghost use Rattle.celt_session.specs.PageWorks.{samples_work, ShowsSamples, PlaysChosen};
+    ghost use Rattle.celt_session.specs.Decoding.{samples, playing as start_of_samples};
 
     /// Before the first page. Phase inversion is left out where `invert` is false.
     pub(crate) fn new(alloc: Global, has_header: bool, invert: bool) -> Result<Samples, OutOfMemory>
@@ -47,56 +50,45 @@ impl Samples {
         let Ok(stereo) = Decoder::new(alloc, 2, invert) else {
             return Err(OutOfMemory);
         };
-        match Symbols::new(alloc) {
-            Ok(symbols) => Ok(Samples {
+        match FrameBatch::new(alloc) {
+            Ok(batch) => Ok(Samples {
                 pages: 0,
                 awaits_header: has_header,
                 mono,
                 stereo,
-                symbols,
+                batch,
             }),
             Err(_) => Err(OutOfMemory),
         }
     }
 
     /// Plays the frames of the page that was given last with the decoder for its channels.
-    fn play<K: Sink>(
+    fn play<R: Threads, K: Sink, G: Gate>(
         &mut self,
+        rt: &R,
         reader: &StreamReader,
-        playing: Playing,
         output: &mut K,
+        gate: &G,
     ) -> Result<Span, Failed>
-        requires one_or_two { (playing.channels ≡ 1) ⊎ (playing.channels ≡ 2) }
-        requires gain { unsigned_abs playing.gain ≤ 32768 }
         ensures pages { self.new.pages ≡ self.old.pages }
         ensures awaits_header { self.new.awaits_header ≡ self.old.awaits_header }
         ensures plays { (heard : Heard) → IsGiven reader.now heard →
-            PlaysChosen self.old playing (page_frames heard.packets) self.new (K.held output.old) (K.held output.new) result }
+            PlaysChosen self.old (playing_in reader.now) (page_frames heard.packets) self.new (K.held output.old) (K.held output.new) result }
         ensures cause { HasCause (K.faults output.old) (K.faults output.new) result }
     {
-        if playing.channels == 2 {
-            return write_page(&mut self.stereo, reader, playing, &mut self.symbols, output);
+        if playing_of(reader).channels == 2 {
+            return write_page(rt, &mut self.stereo, reader, &mut self.batch, output, gate);
         }
-        write_page(&mut self.mono, reader, playing, &mut self.symbols, output)
+        write_page(rt, &mut self.mono, reader, &mut self.batch, output, gate)
     }
-}
 
-impl PageWork for Samples {
-    ghost use Rattle.std.specs.Prelude.{◌≡◌, ◌+◌, ◌^◌, ◌<◌, ◌≤◌};
-    ghost use Rattle.celt_base.specs.Outside.{HasCause};
-    ghost use Rattle.celt_session.specs.Pages.{Heard, IsGiven};
-    ghost use Rattle.celt_session.specs.Works.{Worked};
-    ghost use Rattle.celt_session.specs.PageWorks.{samples_work, ShowsSamples};
-    ghost use Rattle.celt_session.specs.Decoding.{samples};
-
-    ghost work = { samples_work };
-
-    fn page<R: Threads, K: Sink, G: Gate>(
+    /// Writes the samples of the page that was given last.
+    pub(crate) fn page<R: Threads, K: Sink, G: Gate>(
         &mut self,
-        _rt: &R,
+        rt: &R,
         reader: &StreamReader,
         output: &mut K,
-        _gate: &G,
+        gate: &G,
     ) -> Result<(), Failed>
         requires few { self.old.pages < 2 ^ 40 }
         ensures works { (s : samples.State) (heard : Heard) → ShowsSamples self.old s → IsGiven reader.now heard →
@@ -108,7 +100,7 @@ impl PageWork for Samples {
         let Ok(()) = write_opening(self.awaits_header, playing.channels, output) else {
             return Err(Failed);
         };
-        let Ok(_) = self.play(reader, playing, output) else {
+        let Ok(_) = self.play(rt, reader, output, gate) else {
             return Err(Failed);
         };
         self.pages += 1;

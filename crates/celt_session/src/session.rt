@@ -11,35 +11,39 @@ use std::thread::Threads;
 
 /// A stream that is read in pieces, and a work on its pages. It takes no memory after it was made.
 #[derive(Drop)]
-pub(crate) struct Session<W: PageWork + Drop> {
+pub(crate) struct Session {
     reader: StreamReader,
-    work: W,
+    work: PageWork,
     /// Whether a fault was answered or a write failed.
     is_ended: bool,
 }
 
-impl<W: PageWork + Drop> Model for Session<W> {
+impl Model for Session {
     ghost use Rattle.std.specs.Prelude.{◌≡◌, ◌≤◌, ◌+◌, false, true};
     ghost use Rattle.opus_stream.specs.Readers.{bytes_fed, bytes_held};
     ghost use Rattle.celt_session.specs.Sessions.{Held};
+    ghost use Rattle.celt_session.specs.PageWorks.{pages_in};
+    ghost use Rattle.celt_session.specs.declared.work.PageWork.{PageWork};
 
-    ghost Value = { Held W };
+    ghost Value = { Held PageWork };
 
     ghost view = { λ s. record { reader = s.reader; work = s.work; is_ended = s.is_ended } };
 
     ghost invariant = { λ s. s.is_ended ≡ false →
-        (s.reader.is_settled ≡ true) × (W.work.count s.work + bytes_held s.reader ≤ bytes_fed s.reader) };
+        (s.reader.is_settled ≡ true) × (pages_in s.work + bytes_held s.reader ≤ bytes_fed s.reader) };
 }
 
-impl<W: PageWork + Drop> Session<W> {
+impl Session {
     ghost use Rattle.std.specs.Prelude.{◌≡◌, ◌≤◌, ◌+◌, ◌^◌, ◌++◌, ℕ, List, [], length, false, IfOk};
     ghost use Rattle.celt_session.specs.Sessions.{Held, StandsFor, Adds, HasFedCause, IsEndOf, ends_session, taken_by};
+    ghost use Rattle.celt_session.specs.Decoding.{decoding_function};
+    ghost use Rattle.celt_session.specs.PageWorks.{page_work, ShowsPages, pages_in};
 
     /// A session that was fed nothing, of a work that worked on no page.
-    pub(crate) fn new(alloc: Global, work: W) -> Result<Session<W>, OutOfMemory>
-        requires { W.work.count work ≡ 0 }
-        ensures stands { IfOk result (λ session. (start : W.work.function.State) → W.work.Shows work start → StandsFor W.work start session []) }
-        ensures only { IfOk result (λ session. (start : W.work.function.State) (bytes : List ℕ) → StandsFor W.work start session bytes → bytes ≡ []) }
+    pub(crate) fn new(alloc: Global, work: PageWork) -> Result<Session, OutOfMemory>
+        requires { pages_in work ≡ 0 }
+        ensures stands { IfOk result (λ session. (start : decoding_function.State) → ShowsPages work start → StandsFor page_work start session []) }
+        ensures only { IfOk result (λ session. (start : decoding_function.State) (bytes : List ℕ) → StandsFor page_work start session bytes → bytes ≡ []) }
         ensures going { IfOk result (λ session. session.is_ended ≡ false) }
         ensures taken { IfOk result (λ session. taken_by session ≡ 0) }
     {
@@ -63,8 +67,8 @@ impl<W: PageWork + Drop> Session<W> {
     ) -> Fed
         requires going { self.old.is_ended ≡ false }
         requires limit { taken_by self.old + length piece.now ≤ 2 ^ 40 }
-        ensures adds { (start : W.work.function.State) (bytes : List ℕ) → StandsFor W.work start self.old bytes →
-            Adds W.work start bytes (bytes ++ piece.now) self.new (K.held output.old) (K.held output.new) result }
+        ensures adds { (start : decoding_function.State) (bytes : List ℕ) → StandsFor page_work start self.old bytes →
+            Adds page_work start bytes (bytes ++ piece.now) self.new (K.held output.old) (K.held output.new) result }
         ensures ended { self.new.is_ended ≡ ends_session result }
         ensures taken { taken_by self.new ≤ taken_by self.old + length piece.now }
         ensures cause { HasFedCause (K.faults output.old) (K.faults output.new) result }
@@ -92,7 +96,7 @@ impl<W: PageWork + Drop> Session<W> {
     /// The fault of a stream that ends with the bytes so far.
     pub(crate) fn end(&self) -> Option<Fault>
         requires going { self.now.is_ended ≡ false }
-        ensures { IsEndOf W.work self.now result }
+        ensures { IsEndOf page_work self.now result }
     {
         self.reader.end()
     }

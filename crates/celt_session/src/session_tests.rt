@@ -6,7 +6,7 @@ ghost use Rattle.celt_session.specs.Decoders.{is_ended, taken_by};
 use crate::decoding::DecodeSession;
 use crate::fed::Fed;
 use crate::settings::{DecodeSettings, Form};
-use crate::stream_tests::{ROWS, Row, SETTINGS, bytes_of, sum};
+use crate::stream_tests::{Row, SETTINGS, bytes_of, rows, sum};
 use celt_base::memory::MemSink;
 use celt_base::outside::NoGate;
 use celt_base::status::{Fault, FaultName};
@@ -105,7 +105,7 @@ fn row_in_pieces(
 
 #[test]
 fn sessions(rt: HostRuntime) -> Result<(), AllocError> {
-    for row in ROWS {
+    for row in rows() {
         let bytes = bytes_of(rt.alloc(), row.stream)?;
         row_in_pieces(&rt, row, &bytes, 1)?;
         row_in_pieces(&rt, row, &bytes, 7)?;
@@ -138,7 +138,7 @@ fn ends_twice(
 // The end of the bytes so far is a question: what follows is fed as if it had not been asked.
 #[test]
 fn more_behind_an_end(rt: HostRuntime) -> Result<(), AllocError> {
-    let [row, ..] = ROWS;
+    let [row, ..] = rows();
     let bytes = bytes_of(rt.alloc(), row.stream)?;
     let early = Fault {
         name: FaultName::Truncated,
@@ -171,7 +171,7 @@ fn failed(
 // A write that fails has written the first half of its bytes, and ends the session.
 #[test]
 fn failing_writes(rt: HostRuntime) -> Result<(), AllocError> {
-    let [row, ..] = ROWS;
+    let [row, ..] = rows();
     let bytes = bytes_of(rt.alloc(), row.stream)?;
     assert_eq!(rt;
         failed(&rt, rt.alloc(), &bytes)?,

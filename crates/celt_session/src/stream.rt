@@ -1,6 +1,8 @@
 //! A session over a source and a sink, up to a limit.
 ghost use Rattle.std.specs.Prelude.{◌≡◌, ◌≢◌, ◌^◌, ◌≤◌, ◌<◌, [], false, take, length, IfOk, IfSome};
 ghost use Rattle.celt_base.specs.Outside.{Rose};
+ghost use Rattle.celt_session.specs.Decoding.{decoding_function};
+ghost use Rattle.celt_session.specs.PageWorks.{page_work, ShowsPages, pages_in};
 ghost use Rattle.celt_session.specs.Sessions.{StandsFor, taken_by};
 ghost use Rattle.celt_session.specs.Outcomes.{meaning, ended_status, wanted, Answers, Writes};
 
@@ -47,9 +49,9 @@ fn status_at_end(fault: Option<Fault>) -> Status
 }
 
 /// Reads the input to its end or past the limit, and feeds what is within it to a new session.
-fn feed_all<W: PageWork + Drop, R: Threads, S: Source, K: Sink, G: Gate>(
+fn feed_all<R: Threads, S: Source, K: Sink, G: Gate>(
     rt: &R,
-    session: &mut Session<W>,
+    session: &mut Session,
     buf: &mut [u8],
     limit: u64,
     input: &mut S,
@@ -60,10 +62,10 @@ fn feed_all<W: PageWork + Drop, R: Threads, S: Source, K: Sink, G: Gate>(
     requires going { session.old.is_ended ≡ false }
     requires taken { taken_by session.old ≡ 0 }
     requires room { 0 < length buf.old }
-    ensures status { (start : W.work.function.State) → StandsFor W.work start session.old [] →
-        IfSome (S.left input.old) (λ bytes. Answers (wanted (meaning W.work.function start) limit bytes) result) }
-    ensures output { (start : W.work.function.State) → StandsFor W.work start session.old [] →
-        IfSome (S.left input.old) (λ bytes. Writes (meaning W.work.function start) limit bytes (S.left input.new) (K.held output.old) (K.held output.new) result) }
+    ensures status { (start : decoding_function.State) → StandsFor page_work start session.old [] →
+        IfSome (S.left input.old) (λ bytes. Answers (wanted (meaning decoding_function start) limit bytes) result) }
+    ensures output { (start : decoding_function.State) → StandsFor page_work start session.old [] →
+        IfSome (S.left input.old) (λ bytes. Writes (meaning decoding_function start) limit bytes (S.left input.new) (K.held output.old) (K.held output.new) result) }
     ensures read_fault { result ≡ Status.ReadFault → Rose (S.faults input.old) (S.faults input.new) }
     ensures write_fault { result ≡ Status.WriteFault → Rose (K.faults output.old) (K.faults output.new) }
     ensures words { result ≢ Status.Usage }
@@ -93,21 +95,21 @@ fn feed_all<W: PageWork + Drop, R: Threads, S: Source, K: Sink, G: Gate>(
 
 /// Works on the pages of the Ogg stream of the input. At most `limit` bytes are read as the stream, and whether
 /// there is one more is found out. All memory is taken before the first write.
-pub(crate) fn work_stream<W: PageWork + Drop, R: Threads, S: Source, K: Sink, G: Gate>(
+pub(crate) fn work_stream<R: Threads, S: Source, K: Sink, G: Gate>(
     rt: &R,
     alloc: Global,
-    work: W,
+    work: PageWork,
     limit: u64,
     input: &mut S,
     output: &mut K,
     gate: &G,
 ) -> Status
     requires limit { limit ≤ 2 ^ 40 }
-    requires new { W.work.count work ≡ 0 }
-    ensures status { (start : W.work.function.State) → W.work.Shows work start →
-        IfSome (S.left input.old) (λ bytes. Answers (wanted (meaning W.work.function start) limit bytes) result) }
-    ensures output { (start : W.work.function.State) → W.work.Shows work start →
-        IfSome (S.left input.old) (λ bytes. Writes (meaning W.work.function start) limit bytes (S.left input.new) (K.held output.old) (K.held output.new) result) }
+    requires new { pages_in work ≡ 0 }
+    ensures status { (start : decoding_function.State) → ShowsPages work start →
+        IfSome (S.left input.old) (λ bytes. Answers (wanted (meaning decoding_function start) limit bytes) result) }
+    ensures output { (start : decoding_function.State) → ShowsPages work start →
+        IfSome (S.left input.old) (λ bytes. Writes (meaning decoding_function start) limit bytes (S.left input.new) (K.held output.old) (K.held output.new) result) }
     ensures read_fault { result ≡ Status.ReadFault → Rose (S.faults input.old) (S.faults input.new) }
     ensures write_fault { result ≡ Status.WriteFault → Rose (K.faults output.old) (K.faults output.new) }
     ensures memory { result ≡ Status.NoMemory → output.new ≡ output.old }

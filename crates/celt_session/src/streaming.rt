@@ -6,6 +6,8 @@ ghost use Rattle.celt_session.specs.Encodings.{AreSettings, encoding_by};
 ghost use Rattle.celt_session.specs.EncodedFrames.{encoded_frames};
 ghost use Rattle.celt_session.specs.EncoderPairs.{pair_work};
 ghost use Rattle.celt_session.specs.FrameSessions.{StandsFor, Goes, status_of};
+ghost use Rattle.celt_session.specs.Keeping.{IsKept};
+ghost use Rattle.celt_session.specs.Lockstep.{AreInStep};
 
 use crate::batching::new_framer;
 use crate::concluding::{end_session, settle_session};
@@ -136,6 +138,8 @@ pub fn encode_stream<R: Threads, S: Source, K: Sink, G: Gate>(
     requires limit { limit ≤ 2 ^ 40 }
     ensures status { IfSome (S.left input.old) (λ bytes. Answers (wanted (encoding_by encoded_frames settings) limit bytes) result) }
     ensures output { IfSome (S.left input.old) (λ bytes. WritesFront (encoding_by encoded_frames settings) limit bytes (K.held output.old) (K.held output.new) result) }
+    ensures in_step { IfSome (S.left input.old) (λ bytes. result ≡ Status.Done → AreInStep settings bytes) }
+    ensures samples_kept { IfSome (S.left input.old) (λ bytes. result ≡ Status.Done → IsKept encoded_frames settings bytes) }
     ensures read_fault { result ≡ Status.ReadFault → Rose (S.faults input.old) (S.faults input.new) }
     ensures write_fault { result ≡ Status.WriteFault → Rose (K.faults output.old) (K.faults output.new) }
     ensures memory { result ≡ Status.NoMemory → output.new ≡ output.old }

@@ -1,16 +1,18 @@
-use Rattle.std.proofs.Common.{◌≡◌, ◌+◌, ◌*◌, ◌≤◌, length, take}
-use Rattle.std.specs.Io.KnownBytes.{Appends}
+use Rattle.std.proofs.Common.{◌+◌, ◌-◌, ◌≤◌}
 use Rattle.celt_session.specs.Pages.{Heard, IsGiven}
-use Rattle.celt_session.specs.Frames.{page_frames}
-use Rattle.celt_session.specs.Lines.{lines_from}
-use Rattle.frame_symbols.specs.Readings.{range_of}
+use Rattle.celt_session.specs.FrameBatches.{HasBatchRooms, position}
+use Rattle.celt_session.proofs.Batched.{LinedTo}
 use Rattle.celt_session.proofs.lines.write_page.Given as goal
 
-abbrev pub invariant-loop-i : goal.invariant-loop-i
-invariant-loop-i g l = record {
-  number : (heard : Heard) → IsGiven l.fn.reader heard → l.number ≡ l.fn.first + length (page_frames (take l.i heard.packets));
-  goes : (heard : Heard) → IsGiven l.fn.reader heard
-      → Appends (g.K.Sink.held l.fn.output) (g.K.Sink.held l.output) (lines_from range_of l.fn.first (page_frames (take l.i heard.packets)));
-  few : l.number ≤ l.fn.first + 48 * l.i;
+abbrev pub invariant-batches : goal.invariant-batches
+invariant-batches g l = record {
+  rooms : HasBatchRooms l.batch;
+  few : l.place.frame ≤ 48;
+  within : position l.place ≤ 12240;
+  count : l.number ≤ l.fn.first + position l.place;
+  goes : (heard : Heard) → IsGiven l.fn.reader heard → LinedTo l.fn.first heard.packets l.place l.number (g.K.Sink.held l.fn.output) (g.K.Sink.held l.output);
   kept : g.K.Sink.faults l.fn.output ≤ g.K.Sink.faults l.output;
 }
+
+abbrev pub decreases-batches : goal.decreases-batches
+decreases-batches g l = 12240 - position l.place

@@ -1,16 +1,21 @@
-use Rattle.std.proofs.Common.{◌≡◌, ◌*◌, ◌≤◌, take}
+use Rattle.std.proofs.Common.{◌≡◌, ◌-◌, ◌≤◌}
 use Rattle.celt_synth.specs.Decoders.{with_state}
 use Rattle.celt_session.specs.Pages.{Heard, IsGiven}
-use Rattle.celt_session.specs.Frames.{page_frames}
-use Rattle.celt_session.specs.Samples.{Sounds}
-use Rattle.celt_session.specs.Playing.{decoder_step, target_for}
+use Rattle.celt_session.specs.FrameBatches.{HasBatchRooms, position}
+use Rattle.celt_session.specs.Playing.{playing_in}
+use Rattle.celt_session.proofs.Batched.{PlayedTo}
 use Rattle.celt_session.proofs.playing.write_page.Given as goal
 
-abbrev pub invariant-loop-i : goal.invariant-loop-i
-invariant-loop-i g l = record {
+abbrev pub invariant-batches : goal.invariant-batches
+invariant-batches g l = record {
+  rooms : HasBatchRooms l.batch;
+  few : l.place.frame ≤ 48;
+  within : position l.place ≤ 12240;
   same : l.decoder ≡ with_state l.fn.decoder l.decoder.state;
-  sounds : (heard : Heard) → IsGiven l.fn.reader heard → Sounds decoder_step l.fn.decoder.state (target_for l.fn.decoder l.fn.playing) (page_frames (take l.i heard.packets))
-      (l.fn.playing.channels * l.fn.playing.span.from) (l.fn.playing.channels * l.fn.playing.span.to) l.decoder.state (l.fn.playing.channels * l.span.from) (l.fn.playing.channels * l.span.to)
-      (g.K.Sink.held l.fn.output) (g.K.Sink.held l.output);
+  sounds : (heard : Heard) → IsGiven l.fn.reader heard
+      → PlayedTo l.fn.decoder (playing_in l.fn.reader) heard.packets l.place l.decoder.state l.span (g.K.Sink.held l.fn.output) (g.K.Sink.held l.output);
   kept : g.K.Sink.faults l.fn.output ≤ g.K.Sink.faults l.output;
 }
+
+abbrev pub decreases-batches : goal.decreases-batches
+decreases-batches g l = 12240 - position l.place

@@ -6,6 +6,7 @@ use Rattle.celt_session.specs.Sessions.{taken_by}
 use Rattle.celt_session.specs.Outcomes.{meaning, wanted, Answers, Writes}
 use Rattle.celt_session.proofs.Starting.{going}
 use Rattle.celt_session.proofs.Finishing.{start_nothing, fault_answers, fault_writes, long_answers, long_writes, failed_writes, added_twice, read_len, known_end, wanted_end, answers_end, writes_end}
+use Rattle.celt_session.specs.PageWorks.{page_work}
 use Rattle.celt_session.proofs.stream.feed_all.Goals as goal
 
 pub pieces-init : goal.pieces-init
@@ -14,7 +15,7 @@ pieces-init g c =
     record {
       taken = [];
       consumed = Consumes-nil (g.S.Source.left c.args.input.now);
-      goes = λ start stands. (stands, start_nothing g.W.PageWork.work.function start (g.K.Sink.held c.args.output.now));
+      goes = λ start stands. (stands, start_nothing page_work.function start (g.K.Sink.held c.args.output.now));
       going = c.requires.going;
       limit = omega arith;
       fed = omega arith;
@@ -25,10 +26,10 @@ pieces-init g c =
 
 pub returns-then-count-eq0-clause-status : goal.returns-then-count-eq0-clause-status
 returns-then-count-eq0-clause-status g c = λ start stands.
-    let w = g.W.PageWork.work.function in
+    let w = page_work.function in
     let i = c.pieces.invariant in
     let s = (i.goes start stands).0 in
-    let f = going g.W.PageWork.work start c.pieces.session i.taken i.going s in
+    let f = going page_work start c.pieces.session i.taken i.going s in
     let b = c.in-Ok.ensures.bytes in
     let few : length i.taken + c.pieces.left ≡ c.args.limit = i.limit in
     known_end (g.S.Source.left c.args.input.now) (g.S.Source.left c.pieces.input) (g.S.Source.left c.read.new.self) i.taken (take c.in-Ok.count c.read.new.buf)
@@ -37,7 +38,7 @@ returns-then-count-eq0-clause-status g c = λ start stands.
 
 pub returns-then-count-eq0-clause-output : goal.returns-then-count-eq0-clause-output
 returns-then-count-eq0-clause-output g c = λ start stands.
-    let w = g.W.PageWork.work.function in
+    let w = page_work.function in
     let i = c.pieces.invariant in
     let b = c.in-Ok.ensures.bytes in
     known_end (g.S.Source.left c.args.input.now) (g.S.Source.left c.pieces.input) (g.S.Source.left c.read.new.self) i.taken (take c.in-Ok.count c.read.new.buf)
@@ -47,7 +48,7 @@ returns-then-count-eq0-clause-output g c = λ start stands.
 
 pub returns-in-Fault-clause-status : goal.returns-in-Fault-clause-status
 returns-in-Fault-clause-status g c = λ start stands.
-    let w = g.W.PageWork.work.function in
+    let w = page_work.function in
     let i = c.pieces.invariant in
     let p = c.within.ensures ∙ ap (take c.pieces.left) c.split_at.ensures.front in
     let a = c.in-Fault.ensures.adds start i.taken (i.goes start stands).0 in
@@ -56,7 +57,7 @@ returns-in-Fault-clause-status g c = λ start stands.
 
 pub returns-in-Fault-clause-output : goal.returns-in-Fault-clause-output
 returns-in-Fault-clause-output g c = λ start stands.
-    let w = g.W.PageWork.work.function in
+    let w = page_work.function in
     let i = c.pieces.invariant in
     let p = c.within.ensures ∙ ap (take c.pieces.left) c.split_at.ensures.front in
     let s = i.goes start stands in
@@ -66,7 +67,7 @@ returns-in-Fault-clause-output g c = λ start stands.
 
 pub returns-in-WriteFault-clause-output : goal.returns-in-WriteFault-clause-output
 returns-in-WriteFault-clause-output g c = λ start stands.
-    let w = g.W.PageWork.work.function in
+    let w = page_work.function in
     let i = c.pieces.invariant in
     let p = c.within.ensures ∙ ap (take c.pieces.left) c.split_at.ensures.front in
     let s = i.goes start stands in
@@ -75,7 +76,7 @@ returns-in-WriteFault-clause-output g c = λ start stands.
 
 pub returns-then-count-left-clause-status : goal.returns-then-count-left-clause-status
 returns-then-count-left-clause-status g c = λ start stands.
-    let w = g.W.PageWork.work.function in
+    let w = page_work.function in
     let i = c.pieces.invariant in
     let p = c.within.ensures ∙ ap (take c.pieces.left) c.split_at.ensures.front in
     let a = c.in-More.ensures.adds start i.taken (i.goes start stands).0 in
@@ -87,7 +88,7 @@ returns-then-count-left-clause-status g c = λ start stands.
 
 pub returns-then-count-left-clause-output : goal.returns-then-count-left-clause-output
 returns-then-count-left-clause-output g c = λ start stands.
-    let w = g.W.PageWork.work.function in
+    let w = page_work.function in
     let i = c.pieces.invariant in
     let p = c.within.ensures ∙ ap (take c.pieces.left) c.split_at.ensures.front in
     let s = i.goes start stands in
@@ -100,7 +101,7 @@ returns-then-count-left-clause-output g c = λ start stands.
 
 pub pieces-preserved : goal.pieces-preserved
 pieces-preserved g c =
-    let w = g.W.PageWork.work.function in
+    let w = page_work.function in
     let i = c.pieces.invariant in
     let left = g.S.Source.left in
     let read = take c.in-Ok.count c.read.new.buf in
