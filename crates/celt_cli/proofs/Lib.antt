@@ -1,4 +1,5 @@
 pub mod Digits
+pub mod DoneCommands
 pub mod EncodingLemmas
 pub mod Finding
 pub mod GivenPairs

@@ -12,6 +12,5 @@ pub mod Notes
 pub mod Options
 pub mod Parses
 pub mod Runs
-pub mod SilentMakers
 pub mod Spellings
 pub mod Words

@@ -3,7 +3,7 @@ use Rattle.std.specs.Prelude.{ℕ, List, [], ◌∷◌, ◌++◌, codes}
 use Rattle.std.specs.Fmt.{decimal}
 use Rattle.celt_base.specs.declared.status.Fault.{Fault}
 use Rattle.celt_base.specs.declared.status.FaultName.{FaultName}
-use Rattle.celt_base.specs.declared.status.FaultName.TheVariants.{BadCapture, BadPageVersion, BadChecksum, OtherStream, PageGap, BadContinuation, BadHead, UnsupportedFamily, BadTags, PacketTooLong, BadPacket, NotCelt, BadGranule, AfterEnd, Truncated, BadRiff, UnsupportedFormat, NoData, DataTruncated, ChannelChange, NoLink, BadText, TextOverrun, TextTruncated, NotBuilt}
+use Rattle.celt_base.specs.declared.status.FaultName.TheVariants.{BadCapture, BadPageVersion, BadChecksum, OtherStream, PageGap, BadContinuation, BadHead, UnsupportedFamily, BadTags, PacketTooLong, BadPacket, NotCelt, BadGranule, AfterEnd, Truncated, BadRiff, UnsupportedFormat, NoData, DataTruncated, ChannelChange, NoLink, BadText, TextOverrun, TextTruncated}
 use Rattle.celt_cli.specs.declared.notes.Place.{Place}
 use Rattle.celt_cli.specs.declared.notes.Place.TheVariants.{Page, Packet, Byte, Line}
 
@@ -32,7 +32,6 @@ number_of NoLink = 25
 number_of BadText = 26
 number_of TextOverrun = 27
 number_of TextTruncated = 28
-number_of NotBuilt = 99
 
 abbrev pub word_of : FaultName → List ℕ
 word_of BadCapture = codes "BadCapture"
@@ -59,35 +58,33 @@ word_of NoLink = codes "NoLink"
 word_of BadText = codes "BadText"
 word_of TextOverrun = codes "TextOverrun"
 word_of TextTruncated = codes "TextTruncated"
-word_of NotBuilt = codes "NotBuilt"
 
--- what the place of a fault counts, given what it counts where a form is not built
-abbrev pub place_of : FaultName → Place → Place
-place_of BadCapture unbuilt = Page
-place_of BadPageVersion unbuilt = Page
-place_of BadChecksum unbuilt = Page
-place_of OtherStream unbuilt = Page
-place_of PageGap unbuilt = Page
-place_of BadContinuation unbuilt = Page
-place_of BadHead unbuilt = Page
-place_of UnsupportedFamily unbuilt = Page
-place_of BadTags unbuilt = Page
-place_of PacketTooLong unbuilt = Packet
-place_of (BadPacket rule) unbuilt = Packet
-place_of (NotCelt config) unbuilt = Packet
-place_of BadGranule unbuilt = Page
-place_of AfterEnd unbuilt = Page
-place_of Truncated unbuilt = Page
-place_of BadRiff unbuilt = Byte
-place_of (UnsupportedFormat codec bits channels rate) unbuilt = Byte
-place_of NoData unbuilt = Byte
-place_of DataTruncated unbuilt = Byte
-place_of ChannelChange unbuilt = Page
-place_of NoLink unbuilt = Page
-place_of BadText unbuilt = Line
-place_of TextOverrun unbuilt = Line
-place_of TextTruncated unbuilt = Line
-place_of NotBuilt unbuilt = unbuilt
+-- what the place of a fault counts
+abbrev pub place_of : FaultName → Place
+place_of BadCapture = Page
+place_of BadPageVersion = Page
+place_of BadChecksum = Page
+place_of OtherStream = Page
+place_of PageGap = Page
+place_of BadContinuation = Page
+place_of BadHead = Page
+place_of UnsupportedFamily = Page
+place_of BadTags = Page
+place_of PacketTooLong = Packet
+place_of (BadPacket rule) = Packet
+place_of (NotCelt config) = Packet
+place_of BadGranule = Page
+place_of AfterEnd = Page
+place_of Truncated = Page
+place_of BadRiff = Byte
+place_of (UnsupportedFormat codec bits channels rate) = Byte
+place_of NoData = Byte
+place_of DataTruncated = Byte
+place_of ChannelChange = Page
+place_of NoLink = Page
+place_of BadText = Line
+place_of TextOverrun = Line
+place_of TextTruncated = Line
 
 abbrev pub place_word : Place → List ℕ
 place_word Page = codes "page"
@@ -126,16 +123,15 @@ details_of NoLink = []
 details_of BadText = []
 details_of TextOverrun = []
 details_of TextTruncated = []
-details_of NotBuilt = []
 
 -- "celt: ", a number, a space and a word
 abbrev pub opening_of : ℕ → List ℕ → List ℕ
 opening_of number word = codes "celt: " ++ (decimal number ++ (codes " " ++ word))
 
 -- the line of a fault: its number, its name, its place and what else it says
-unfoldable pub refusal_of : Place → Fault → List ℕ
-refusal_of unbuilt fault =
-    (opening_of (number_of fault.name) (word_of fault.name) ++ labelled_of (place_word (place_of fault.name unbuilt)) fault.at) ++ (details_of fault.name ++ 10 ∷ [])
+unfoldable pub refusal_of : Fault → List ℕ
+refusal_of fault =
+    (opening_of (number_of fault.name) (word_of fault.name) ++ labelled_of (place_word (place_of fault.name)) fault.at) ++ (details_of fault.name ++ 10 ∷ [])
 
 -- the line where the words are not accepted
 abbrev pub usage : List ℕ

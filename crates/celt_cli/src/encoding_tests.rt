@@ -123,7 +123,7 @@ const FIVE: Settings = Settings {
     group: 1,
 };
 
-const ENCODE_FIVE: [&str; 3] = ["encode", "--bytes", "5"];
+pub const ENCODE_FIVE: [&str; 3] = ["encode", "--bytes", "5"];
 
 /// The largest number, which stands for a size that is not known.
 const NO_SIZE: u32 = u32::MAX;
@@ -448,7 +448,7 @@ fn words_of_encode(rt: HostRuntime) -> Result<(), AllocError> {
     Ok(())
 }
 
-// Packets of more than one frame are not built: nothing is read and nothing is written but the note.
+// Packets of more than one frame are accepted. The first read fails, and nothing is written.
 #[test]
 fn groups(rt: HostRuntime) -> Result<(), AllocError> {
     let alloc = rt.alloc();

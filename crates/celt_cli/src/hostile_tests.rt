@@ -1,8 +1,10 @@
-//! Decoding where everything around it fails: reads, writes and notes that fail, inputs that are cut, and packets of noise.
+//! Decoding and encoding where everything around them fails: reads, writes and notes that fail, inputs that are cut, and
+//! packets of noise.
 //! The pages were made, and the values computed, by a program apart from this one.
 ghost use Rattle.std.specs.Prelude.{◌≤◌, length, Some};
 ghost use Rattle.celt_base.specs.MemorySides.{held_of, sink_faults};
 
+use crate::encoding_tests::ENCODE_FIVE;
 use crate::music_tests::sum;
 use crate::program::run;
 use crate::tests::{Failing, HEAD_PAGE, NONE_FAILS, Outcome, TAGS_PAGE, attempt, pieces, refused};
@@ -11,6 +13,7 @@ use celt_base::outside::{Failed, NoGate, Sink};
 use celt_base::status::{Fault, FaultName, Status};
 use celt_session::{DecodeSession, DecodeSettings, Fed, Form};
 use std::alloc::{AllocError, Global};
+use std::process::Abort;
 use std::thread::Threads;
 
 /// A stream of 2000 samples of silence, in one channel and three frames of five bytes.
@@ -304,6 +307,65 @@ fn cut_inputs(rt: HostRuntime) -> Result<(), AllocError> {
         }
     }
     Ok(())
+}
+
+/// The file of that stream: one channel of 2000 samples of 0, whose length the header says.
+fn silent_file(alloc: Global) -> Result<Vec<u8>, AllocError> {
+    let mut bytes = Vec::from_slice(alloc, b"RIFF\xff\xff\xff\xffWAVEfmt \x10\0\0\0\x01\0\x01\0")?;
+    bytes.extend_from_slice(b"\x80\xbb\0\0\0\x77\x01\0\x02\0\x10\0data\xa0\x0f\0\0")?;
+    bytes.extend_from_slice(&[0; 4000])?;
+    Ok(bytes)
+}
+
+/// Why that file is refused: it ends before its samples, or before a chunk or within it.
+fn cut_name(len: usize) -> (FaultName, &'static str) {
+    match len {
+        12 | 36 => (FaultName::NoData, "22 NoData"),
+        _ => (FaultName::DataTruncated, "23 DataTruncated"),
+    }
+}
+
+/// Cuts that file after each number of bytes from the first to the last: that many bytes of the stream are written.
+fn expect_cuts(
+    rt: &(impl Threads + Abort + AllocGlobal),
+    first: usize,
+    last: usize,
+    written: usize,
+) -> Result<(), AllocError> {
+    let alloc = rt.alloc();
+    let file = silent_file(alloc)?;
+    for len in first..=last {
+        let (front, _) = file.split_at(len.min(file.len()));
+        let got = attempt(rt, alloc, &ENCODE_FIVE, front, 1021, NONE_FAILS)?;
+        let (name, text) = cut_name(len);
+        let note = format!(in alloc; "celt: {text} byte {len}\n")?;
+        assert_eq!(rt; got.status, refused(name, len as u64), "cut at {len}");
+        assert!(rt; is_front(&got.output, written, &SILENT), "cut at {len}");
+        assert_eq!(rt; got.notes.as_slice(), note.as_bytes());
+    }
+    Ok(())
+}
+
+// The file is cut after each of its bytes but the last. Within its header it gives nothing.
+#[test]
+fn files_cut_in_the_header(rt: HostRuntime) -> Result<(), AllocError> {
+    expect_cuts(&rt, 0, 43, 0)
+}
+
+// With the header come two pages of headers, and each 960 samples give a page.
+#[test]
+fn files_cut_in_the_first_frame(rt: HostRuntime) -> Result<(), AllocError> {
+    expect_cuts(&rt, 44, 1963, 95)
+}
+
+#[test]
+fn files_cut_in_the_second_frame(rt: HostRuntime) -> Result<(), AllocError> {
+    expect_cuts(&rt, 1964, 3883, 129)
+}
+
+#[test]
+fn files_cut_in_the_third_frame(rt: HostRuntime) -> Result<(), AllocError> {
+    expect_cuts(&rt, 3884, 4043, 163)
 }
 
 // The first write to the notes fails: half of the line is there, and the output is as it would be.

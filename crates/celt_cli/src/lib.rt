@@ -7,8 +7,6 @@ mod encoding_tests;
 #[cfg(test)]
 mod gen_tests;
 pub mod generating;
-#[cfg(test)]
-mod generating_tests;
 pub mod generator;
 #[cfg(test)]
 mod generator_tests;
@@ -23,7 +21,6 @@ pub mod notes;
 pub mod pairs;
 pub mod program;
 pub mod report;
-pub mod silent_maker;
 #[cfg(test)]
 mod sounding_tests;
 pub mod tally;

@@ -52,7 +52,6 @@ fn number(name: FaultName) -> u8
         FaultName::BadText => 26,
         FaultName::TextOverrun => 27,
         FaultName::TextTruncated => 28,
-        FaultName::NotBuilt => 99,
     }
 }
 
@@ -91,13 +90,12 @@ fn word(name: FaultName) -> &'static str
         FaultName::BadText => "BadText",
         FaultName::TextOverrun => "TextOverrun",
         FaultName::TextTruncated => "TextTruncated",
-        FaultName::NotBuilt => "NotBuilt",
     }
 }
 
-/// What the place of a fault counts, given what it counts where a form is not built.
-fn counted(name: FaultName, unbuilt: Place) -> Place
-    ensures { result ≡ place_of name unbuilt }
+/// What the place of a fault counts.
+fn counted(name: FaultName) -> Place
+    ensures { result ≡ place_of name }
 {
     match name {
         FaultName::PacketTooLong => Place::Packet,
@@ -115,7 +113,6 @@ fn counted(name: FaultName, unbuilt: Place) -> Place
         FaultName::BadText => Place::Line,
         FaultName::TextOverrun => Place::Line,
         FaultName::TextTruncated => Place::Line,
-        FaultName::NotBuilt => unbuilt,
         _ => Place::Page,
     }
 }
@@ -189,15 +186,14 @@ fn put_opening(out: &mut [u8], number: u8, word: &str) -> usize
     put_text(out, at, word.as_bytes())
 }
 
-/// Puts the line of a fault, and answers its length. `unbuilt` is what its place counts where a form is not
-/// built.
+/// Puts the line of a fault, and answers its length.
 #[tactic(auto, unfolding(crate::specs::Notes::refusal_of))]
-pub fn put_refusal(out: &mut [u8; MOST_LINE], unbuilt: Place, fault: Fault) -> usize
-    ensures line { take result out.new ≡ refusal_of unbuilt fault }
+pub fn put_refusal(out: &mut [u8; MOST_LINE], fault: Fault) -> usize
+    ensures line { take result out.new ≡ refusal_of fault }
     ensures bound { result ≤ 256 }
 {
     let at = put_opening(out, number(fault.name), word(fault.name));
-    let at = put_labelled(out, at, place_name(counted(fault.name, unbuilt)), fault.at);
+    let at = put_labelled(out, at, place_name(counted(fault.name)), fault.at);
     let at = put_details(out, at, fault.name);
     put_byte(out, at, b'\n')
 }

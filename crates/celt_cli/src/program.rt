@@ -4,13 +4,13 @@ ghost use Rattle.celt_base.specs.Outside.{Rose};
 ghost use Rattle.celt_session.specs.Outcomes.{wanted, Answers};
 ghost use Rattle.celt_cli.specs.EncodingMakers.{encoding_makers};
 ghost use Rattle.celt_cli.specs.GenLines.{AddsLine, gen_line};
-ghost use Rattle.celt_cli.specs.Runs.{AnswersUsage, EitherRose, Says, IfReads, Wrote, meaning_of, reads, unbuilt_of};
+ghost use Rattle.celt_cli.specs.Runs.{AnswersUsage, EitherRose, Says, IfReads, KeepsSamples, KeepsStep, Wrote, meaning_of, reads};
 ghost use Rattle.celt_cli.specs.Words.{IsCommand, command_of};
 
 use crate::encoding_maker::EncodingMaker;
 use crate::generating::write_generated;
 use crate::generator::GenSettings;
-use crate::notes::{MOST_LINE, Place, put_refusal};
+use crate::notes::{MOST_LINE, put_refusal};
 use crate::words::{Command, command_in};
 use celt_base::outside::{Gate, Sink, Source};
 use celt_base::status::{Fault, Status};
@@ -24,7 +24,7 @@ const LIMIT: u64 = 1 << 40;
 /// Says that the words are not accepted.
 fn say_usage<E: Sink>(notes: &mut E) -> Status
     ensures status { AnswersUsage result }
-    ensures notes { Says Place.Page Status.Usage (E.held notes.old) (E.held notes.new) result }
+    ensures notes { Says Status.Usage (E.held notes.old) (E.held notes.new) result }
     ensures write_fault { result ≡ Status.WriteFault → Rose (E.faults notes.old) (E.faults notes.new) }
     ensures no_memory_fault { result ≢ Status.NoMemory }
 {
@@ -35,30 +35,19 @@ fn say_usage<E: Sink>(notes: &mut E) -> Status
 }
 
 /// Says why the input is refused.
-fn say_refusal<E: Sink>(unbuilt: Place, fault: Fault, notes: &mut E) -> Status
+fn say_refusal<E: Sink>(fault: Fault, notes: &mut E) -> Status
     ensures status { Answers (Status.Refused fault) result }
-    ensures notes { Says unbuilt (Status.Refused fault) (E.held notes.old) (E.held notes.new) result }
+    ensures notes { Says (Status.Refused fault) (E.held notes.old) (E.held notes.new) result }
     ensures write_fault { result ≡ Status.WriteFault → Rose (E.faults notes.old) (E.faults notes.new) }
     ensures no_read_fault { result ≢ Status.ReadFault }
     ensures no_memory_fault { result ≢ Status.NoMemory }
 {
     let mut line = [0; MOST_LINE];
-    let len = put_refusal(&mut line, unbuilt, fault);
+    let len = put_refusal(&mut line, fault);
     let (text, _) = line.split_at(len);
     match notes.write_all(text) {
         Ok(()) => Status::Refused(fault),
         Err(_) => Status::WriteFault,
-    }
-}
-
-/// What the place of a fault counts where a form is not built.
-fn unbuilt(command: Command) -> Place
-    ensures { result ≡ unbuilt_of command }
-{
-    match command {
-        Command::Decode(_) => Place::Page,
-        Command::Encode(_) => Place::Byte,
-        Command::Gen(_) => Place::Byte,
     }
 }
 
@@ -90,6 +79,8 @@ fn run_command<R: Threads, S: Source, K: Sink, G: Gate>(
     requires { IsCommand command }
     ensures status { IfReads command (S.left input.old) (λ bytes. Answers (wanted (meaning_of command) (2 ^ 40) bytes) result) }
     ensures output { IfReads command (S.left input.old) (λ bytes. Wrote command (2 ^ 40) bytes (S.left input.new) (K.held output.old) (K.held output.new) result) }
+    ensures in_step { IfReads command (S.left input.old) (λ bytes. result ≡ Status.Done → KeepsStep command bytes) }
+    ensures samples_kept { IfReads command (S.left input.old) (λ bytes. result ≡ Status.Done → KeepsSamples command bytes) }
     ensures input { reads command ≡ false → input.new ≡ input.old }
     ensures never_read { reads command ≡ false → result ≢ Status.ReadFault }
     ensures read_fault { result ≡ Status.ReadFault → Rose (S.faults input.old) (S.faults input.new) }
@@ -109,8 +100,9 @@ fn run_command<R: Threads, S: Source, K: Sink, G: Gate>(
     }
 }
 
-/// Runs the program: the words after its name, standard input, standard output, standard error. `rt`
-/// and `gate` are for parallel work, of which there is none yet.
+/// Runs the program: the words after its name, standard input, standard output, standard error. Two threads of `rt`
+/// read the frames of a batch while a stream is decoded, and analyse its windows while a file is encoded; the answer is
+/// the same for every gate.
 pub fn run<R: Threads, S: Source, K: Sink, E: Sink, G: Gate>(
     rt: &R,
     alloc: Global,
@@ -124,7 +116,7 @@ pub fn run<R: Threads, S: Source, K: Sink, E: Sink, G: Gate>(
     ensures usage { command_of words.now ≡ None → AnswersUsage result }
     ensures usage_input { command_of words.now ≡ None → input.new ≡ input.old }
     ensures usage_output { command_of words.now ≡ None → output.new ≡ output.old }
-    ensures usage_notes { command_of words.now ≡ None → Says Place.Page Status.Usage (E.held notes.old) (E.held notes.new) result }
+    ensures usage_notes { command_of words.now ≡ None → Says Status.Usage (E.held notes.old) (E.held notes.new) result }
 
     // A command: the status and the output are those of its meaning. `gen` reads nothing.
     ensures not_usage { IfSome (command_of words.now) (λ command. result ≢ Status.Usage) }
@@ -132,8 +124,12 @@ pub fn run<R: Threads, S: Source, K: Sink, E: Sink, G: Gate>(
         IfReads command (S.left input.old) (λ bytes. Answers (wanted (meaning_of command) (2 ^ 40) bytes) result)) }
     ensures output { IfSome (command_of words.now) (λ command.
         IfReads command (S.left input.old) (λ bytes. Wrote command (2 ^ 40) bytes (S.left input.new) (K.held output.old) (K.held output.new) result)) }
+    ensures in_step { IfSome (command_of words.now) (λ command.
+        IfReads command (S.left input.old) (λ bytes. result ≡ Status.Done → KeepsStep command bytes)) }
+    ensures samples_kept { IfSome (command_of words.now) (λ command.
+        IfReads command (S.left input.old) (λ bytes. result ≡ Status.Done → KeepsSamples command bytes)) }
     ensures notes { IfSome (command_of words.now) (λ command.
-        IfReads command (S.left input.old) (λ bytes. Says (unbuilt_of command) (wanted (meaning_of command) (2 ^ 40) bytes) (E.held notes.old) (E.held notes.new) result)) }
+        IfReads command (S.left input.old) (λ bytes. Says (wanted (meaning_of command) (2 ^ 40) bytes) (E.held notes.old) (E.held notes.new) result)) }
     ensures gen_input { IfSome (command_of words.now) (λ command. reads command ≡ false → input.new ≡ input.old) }
     ensures gen_never_read { IfSome (command_of words.now) (λ command. reads command ≡ false → result ≢ Status.ReadFault) }
 
@@ -153,7 +149,7 @@ pub fn run<R: Threads, S: Source, K: Sink, E: Sink, G: Gate>(
     };
     let status = run_command(rt, alloc, command, input, output, gate);
     match status {
-        Status::Refused(fault) => say_refusal(unbuilt(command), fault, notes),
+        Status::Refused(fault) => say_refusal(fault, notes),
         status => status,
     }
 }
