@@ -1,6 +1,7 @@
-//! The test of the gate: the two halves of each batch of frames are read at once.
+//! The test of the gate: the two halves of each batch of frames are read at once, and those of each batch of windows
+//! are heard at once.
 use crate::stream_tests::bytes_of;
-use crate::{DecodeSettings, Form, decode_stream};
+use crate::{DecodeSettings, Form, Settings, decode_stream, encode_stream};
 use celt_base::memory::{MemSink, MemSource};
 use celt_base::outside::Gate;
 use celt_base::status::Status;
@@ -28,6 +29,12 @@ const MANY: &str = "\
      fffefffefffefffefffefffefffefffefffefffefffefffefffefffefffefffefffefffefffefffefffee318\
      fffefffefffefffefffefffefffefffefffefffefffefffefffefffefffefffefffefffefffefffefffefffe\
      fffefffe";
+
+/// The header of a WAV file of one channel and 1920 samples.
+const HEADER: &str = "\
+     52494646240f000057415645666d74201000000001000100\
+     80bb00000077010002001000646174\
+     61000f0000";
 
 /// A gate that holds the first half of each batch until the second half has entered.
 #[derive(Drop)]
@@ -106,5 +113,47 @@ fn halves_meet(rt: HostRuntime) -> Result<(), AllocError> {
         let got = met(&rt, alloc, stream, form)?;
         assert_eq!(rt; got, (Status::Done, len, batches, false));
     }
+    Ok(())
+}
+
+/// Encodes a WAV file of 1920 samples, and answers how many bytes it gives, how many batches had two halves, and whether
+/// one missed the other.
+fn met_encoding<R: Threads>(
+    rt: &R,
+    alloc: Global,
+) -> Result<(Status, usize, u64, bool), AllocError> {
+    let mut file = bytes_of(alloc, HEADER)?;
+    for place in 0..3840u32 {
+        file.push((place % 251) as u8)?;
+    }
+    let mut pieces = Vec::new(alloc);
+    pieces.push(file)?;
+    let mut input = MemSource::new(pieces, Vec::new(alloc));
+    let mut output = MemSink::new(alloc, Vec::new(alloc));
+    let gate = Meeting {
+        first: AtomicU64::new(0),
+        second: AtomicU64::new(0),
+        missed: AtomicBool::new(false),
+    };
+    let settings = Settings {
+        bytes: 40,
+        frame: 960,
+        band: 3,
+        group: 1,
+    };
+    let status = encode_stream(rt, alloc, settings, 1 << 40, &mut input, &mut output, &gate);
+    let batches = gate.first.load(Ordering::SeqCst);
+    let missed = gate.missed.load(Ordering::SeqCst);
+    Ok((status, output.bytes().len(), batches, missed))
+}
+
+// Three frames, of which one batch finds the pitch and another one the rest: two header pages of 47 and 48 bytes, and
+// three pages of 69.
+#[test]
+fn halves_of_windows_meet(rt: HostRuntime) -> Result<(), AllocError> {
+    assert_eq!(rt;
+        met_encoding(&rt, rt.alloc())?,
+        (Status::Done, 302, 2, false)
+    );
     Ok(())
 }
