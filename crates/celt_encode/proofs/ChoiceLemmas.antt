@@ -51,7 +51,6 @@ module _ {C H K : Type 0} {coder : CoderCalls C} {chooser : ChooserCalls H} (kno
   through_nearest near (entered {at = at} {events = events} {h = h} {k = k} enter x) =
       subst (λ known. AreNearest noted wants known events) (enters h k at enter) (through_nearest near x)
 
-
   -- a walk makes the choice of its script
   pub walked_choice : ((c d : C) (question : Question) (wanted answer : ℤ) → coder.Asks c question wanted answer d → IsNearest question wanted answer)
       → {A : Type 0} {script : Script A} {value : A} {c d : C} {h k : H}

@@ -23,8 +23,8 @@ mixing_more f l r out i v below e m = record {
       elim (cases_lt p i) [
         | inl less ↦ get_or-set_other out i p v (pos 0) (let ne : p ≢ i = omega arith in ne) ∙ m.each p less
         | inr same ↦
-          let q : i ≡ p = omega arith in
-          subst (λ k. item (slice_set out i v) k ≡ f (item l k) (item r k)) q (get_or-set_same out i v (pos 0) below ∙ e)
+            let q : i ≡ p = omega arith in
+            subst (λ k. item (slice_set out i v) k ≡ f (item l k) (item r k)) q (get_or-set_same out i v (pos 0) below ∙ e)
       ];
 }
 

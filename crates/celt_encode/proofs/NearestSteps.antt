@@ -122,7 +122,7 @@ greatest_within t n = let e : n + 1 ≡ suc n = omega arith in let h = greatest_
 near_above : (q : Question) (w : ℕ) → IsValid q → IsNearest q (pos w) (pos (greatest (λ n. has_answer q (pos n)) (w + 1)))
 near_above q w v = record {
   is_answer = has_is q (pos (greatest (λ n. has_answer q (pos n)) (w + 1)))
-    (greatest-found (λ n. has_answer q (pos n)) (w + 1) 0 (omega arith) (is_has q (pos 0) (zero_is q v)));
+      (greatest-found (λ n. has_answer q (pos n)) (w + 1) 0 (omega arith) (is_has q (pos 0) (zero_is q v)));
   nearest = λ other h. nearer other h;
 }
   where
@@ -138,7 +138,7 @@ near_above q w v = record {
 near_below : (q : Question) (w : ℕ) → has_answer q (negsuc 0) ≡ true → IsNearest q (negsuc w) (negsuc (greatest (λ n. has_answer q (negsuc n)) (w + 1)))
 near_below q w some = record {
   is_answer = has_is q (negsuc (greatest (λ n. has_answer q (negsuc n)) (w + 1)))
-    (greatest-found (λ n. has_answer q (negsuc n)) (w + 1) 0 (omega arith) some);
+      (greatest-found (λ n. has_answer q (negsuc n)) (w + 1) 0 (omega arith) some);
   nearest = λ other h. nearer other h;
 }
   where

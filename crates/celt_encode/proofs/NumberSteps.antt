@@ -29,7 +29,7 @@ pub octave_found : (period octave : ℕ) → Lowering period octave → 16 * 2 ^
 octave_found period octave l within =
     let few = l.few in
     sym (greatest_is (λ octave. nat_le (16 * 2 ^ octave) (period + 1)) 6 octave (omega (arith, few)) (le-leb (16 * 2 ^ octave) (period + 1) within)
-        (λ higher h g. lt-leb (16 * 2 ^ higher) (period + 1) (l.above higher h g)))
+    (λ higher h g. lt-leb (16 * 2 ^ higher) (period + 1) (l.above higher h g)))
 
 pub octave_small : (octave : ℕ) → octave ≤ 5 → 16 * 2 ^ octave ≤ 512
 octave_small octave few = let e : 2 ^ octave ≤ 2 ^ 5 = pow-le-pow_right {n = 2} (omega arith) few in omega (arith, e)

@@ -39,9 +39,9 @@ choice_adds noted wants known (Begin at script) pace valid = begun (choice_adds 
 choice_adds noted wants known (Ask at question follow) pace valid =
     let near = is_nearest question (meant at question (wants known at)) valid.0 in
     asked valid.0 near.is_answer
-        (choice_adds noted wants (noted known (Asked at question (answer_at at question (wants known at))))
-            (follow (answer_at at question (wants known at))) (paced question (answer_at at question (wants known at)) pace)
-            (valid.2 (answer_at at question (wants known at)) near.is_answer))
+    (choice_adds noted wants (noted known (Asked at question (answer_at at question (wants known at))))
+    (follow (answer_at at question (wants known at))) (paced question (answer_at at question (wants known at)) pace)
+    (valid.2 (answer_at at question (wants known at)) near.is_answer))
 
 -- its answers are answers, and fit their types
 adds_answers : {A : Type 0} {script : Script A} {pace : Pace} {events : List Event} {value : A}
@@ -112,7 +112,7 @@ pub kept_read : (f : Outset) → 2 ≤ f.len → IsReading f.kind (frame_of f) (
 kept_read f least =
     let code = kept_code f least in
     reading_by f.kind (frame_of f) f.len (kept_of f) code.code.length_is (kept_ended f)
-        (kept_answers f (chosen_answers f) (chosen_types f)).0 code
+    (kept_answers f (chosen_answers f) (chosen_types f)).0 code
 
 -- ---- the frame of an encoder
 

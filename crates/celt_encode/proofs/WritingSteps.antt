@@ -52,11 +52,11 @@ unfolding chosen_list choice_of
 choice_list f kind len list fields h k kinds lens start w =
     let e =
     walked_choice {coder = writer_calls} {chooser = choice_calls} standing_of noted wanted
-        (λ h k at x. x)
-        (λ h k at question number x. x.same)
-        (λ h k at question number x. x.is_wanted)
-        (λ h k at question answer x. x)
-        (λ c d question number answer x. x.nearest) w.walked.walked in
+    (λ h k at x. x)
+    (λ h k at question number x. x.same)
+    (λ h k at question number x. x.is_wanted)
+    (λ h k at question answer x. x)
+    (λ c d question number answer x. x.nearest) w.walked.walked in
     w.walked.list_is
     ∙ ap (λ chosen. answered_in chosen.events) e
     ∙ ap (λ pace. answered_in (choose noted wanted (standing_of h) (frame_script kind len) pace).events) (pace_is w.before w.begun)
@@ -82,11 +82,11 @@ pub silent_list : (kind : Kind) (len : ℕ) (list : List Answer) (fields : Field
 silent_list kind len list fields h k w =
     let e =
     walked_choice {coder = writer_calls} {chooser = hush_calls} (λ h. tt) hushed always_one
-        (λ h k at x. refl)
-        (λ h k at question number x. refl)
-        (λ h k at question number x. x)
-        (λ h k at question answer x. refl)
-        (λ c d question number answer x. x.nearest) w.walked.walked in
+    (λ h k at x. refl)
+    (λ h k at question number x. refl)
+    (λ h k at question number x. x)
+    (λ h k at question answer x. refl)
+    (λ c d question number answer x. x.nearest) w.walked.walked in
     w.walked.list_is
     ∙ ap (λ chosen. answered_in chosen.events) e
     ∙ ap (λ pace. answered_in (choose hushed always_one tt (frame_script kind len) pace).events) (pace_is w.before w.begun)

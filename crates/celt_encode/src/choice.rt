@@ -27,7 +27,12 @@ impl<'a> Choice<'a> {
     ghost use Rattle.celt_encode.specs.Standing.{begun};
 
     /// The chooser of a frame of which nothing was answered. The rooms may hold anything.
-    pub fn new(frame: &'a Frame, trig: &'a Trig, first: &'a mut Vector, second: &'a mut Vector) -> Choice<'a>
+    pub fn new(
+        frame: &'a Frame,
+        trig: &'a Trig,
+        first: &'a mut Vector,
+        second: &'a mut Vector,
+    ) -> Choice<'a>
         ensures { standing_of result ≡ begun (outset_of frame.now) }
     {
         first.count = 0;

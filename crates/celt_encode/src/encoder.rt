@@ -108,7 +108,14 @@ impl Encoder {
     {
         let bench = &mut *self.bench;
         let len = room.len() as u32;
-        hear(&mut bench.frame, self.kind, len, !self.made, &self.shared, a);
+        hear(
+            &mut bench.frame,
+            self.kind,
+            len,
+            !self.made,
+            &self.shared,
+            a,
+        );
         self.fell = write(&bench.frame, &bench.trig, &mut bench.vectors, room, s);
         self.shared = share(self.kind, s, &self.shared);
         self.made = true;

@@ -12,7 +12,9 @@ use crate::energies::{coarse_number, fine_number, last_number};
 use crate::frame::Frame;
 use crate::leaves::{Spreading, pulses_number};
 use crate::rooms::Vector;
-use crate::vectors::{is_back, is_below, items_of, opposed, part_from, split_number, stereo_number};
+use crate::vectors::{
+    is_back, is_below, items_of, opposed, part_from, split_number, stereo_number,
+};
 use celt_base::coder::Place;
 use celt_base::kind::Kind;
 use celt_base::state::Setting;
@@ -111,7 +113,14 @@ fn vector_at<'a>(first: &'a Vector, second: &'a Vector, channel: u8) -> &'a Vect
 
 /// What is wanted at a place.
 #[tactic(auto, unfolding(crate::specs::Wanted::wanted))]
-pub fn number_at(frame: &Frame, trig: &Trig, answers: &Answers, first: &Vector, second: &Vector, at: Place) -> i64
+pub fn number_at(
+    frame: &Frame,
+    trig: &Trig,
+    answers: &Answers,
+    first: &Vector,
+    second: &Vector,
+    at: Place,
+) -> i64
     requires { answers.now.spread ≤ 3 }
     ensures { result ≡ wanted (standing_by (outset_of frame.now) answers.now (vector_of first.now) (vector_of second.now)) at }
 {
@@ -158,7 +167,15 @@ pub fn number_at(frame: &Frame, trig: &Trig, answers: &Answers, first: &Vector, 
             ..
         } => {
             let part = part_at(vector_at(first, second, channel), offset, n);
-            pulses_number(part, trig, Spreading { blocks, pulses: k, spread: answers.spread })
+            pulses_number(
+                part,
+                trig,
+                Spreading {
+                    blocks,
+                    pulses: k,
+                    spread: answers.spread,
+                },
+            )
         }
         Place::Coarse { band, channel } => coarse_number(frame, answers, channel, band),
         Place::Fine {

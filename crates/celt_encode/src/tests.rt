@@ -33,7 +33,11 @@ fn noise_of(number: u32) -> i16 {
 
 // A square wave of the greatest amplitude.
 fn square_at(place: u32) -> i16 {
-    if place / 100 % 2 == 0 { 32_767 } else { -32_768 }
+    if place / 100 % 2 == 0 {
+        32_767
+    } else {
+        -32_768
+    }
 }
 
 // A triangle wave.
@@ -50,9 +54,7 @@ fn sample_of(form: u8, place: u32, number: u32) -> i16 {
         1 => square_at(place),
         2 => triangle_at(place).wrapping_add(noise >> 8),
         3 => 0,
-        _ => {
-            if place >= 1500 { noise } else { noise >> 9 }
-        }
+        _ => { if place >= 1500 { noise } else { noise >> 9 } }
     }
 }
 
@@ -71,7 +73,10 @@ fn pair_of(form: u8, place: u32, channel: u8, number: u32) -> i16 {
 impl Signal {
     // The next sample, channels in turn.
     fn next(&mut self) -> i16 {
-        self.noise = self.noise.wrapping_mul(1_664_525).wrapping_add(1_013_904_223);
+        self.noise = self
+            .noise
+            .wrapping_mul(1_664_525)
+            .wrapping_add(1_013_904_223);
         let place = self.place;
         let channel = self.channel;
         self.channel = channel.wrapping_add(1);
@@ -202,10 +207,21 @@ impl Bench {
         requires most { length room.old ≤ 1275 }
     {
         let kind = self.kind;
-        move_on(self.window.as_mut_slice(), frame_len(kind), &mut self.signal);
+        move_on(
+            self.window.as_mut_slice(),
+            frame_len(kind),
+            &mut self.signal,
+        );
         let window = self.window.as_slice();
         self.settings = [self.settings[1], self.settings[2], pitch(window, kind)];
-        analyse(window, kind, &self.settings, &self.trig, &self.exp, &mut self.analysis);
+        analyse(
+            window,
+            kind,
+            &self.settings,
+            &self.trig,
+            &self.exp,
+            &mut self.analysis,
+        );
         self.encoder.frame(&self.analysis, room, &mut self.symbols)
     }
 }

@@ -183,7 +183,11 @@ fn alone(frame: &Frame, answers: &Answers, band: u8, n: usize) -> bool
 fn flag_at(flags: &[bool; 21], band: u8) -> bool
     ensures { result ≡ slice_index_or flags.now band false }
 {
-    if band < 21 { flags[band as usize] } else { false }
+    if band < 21 {
+        flags[band as usize]
+    } else {
+        false
+    }
 }
 
 #[tactic(auto, unfolding(crate::specs::Vectors::takes_side))]
@@ -237,10 +241,7 @@ pub fn entered(frame: &Frame, answers: &Answers, at: Enter) -> Vector
     let (x, _) = plain.split_at_mut(count);
     let (out, _) = items.split_at_mut(count);
     change(x, out, at);
-    Vector {
-        items,
-        count,
-    }
+    Vector { items, count }
 }
 
 // The sum of the squares of the channels' sum, or of their difference.
@@ -313,7 +314,12 @@ fn turns(x: &[i64], y: &[i64]) -> bool
     requires ys { All (λ v. unsigned_abs v ≤ 2 ^ 15) y.now }
     ensures { result ≡ turns_back x.now y.now }
 {
-    is_less(coefficient_at(x, 0), coefficient_at(y, 1), coefficient_at(x, 1), coefficient_at(y, 0))
+    is_less(
+        coefficient_at(x, 0),
+        coefficient_at(y, 1),
+        coefficient_at(x, 1),
+        coefficient_at(y, 0),
+    )
 }
 
 /// Whether the vector of a pair of coefficients that is not coded lies to the right of the one that is, turned back.

@@ -78,7 +78,7 @@ behind_shared target a zero sizes = refl
 behind_shared target a (suc t) sizes =
     ap shared_of (behind_next target a t)
     ∙ frame_shared target (decoder_behind target a t) (encoder_before a t) (kind_of a.toc) (a.bytes t) ((row_of encoded_frames a).window t)
-        (sizes t) (behind_shared target a t sizes)
+    (sizes t) (behind_shared target a t sizes)
 
 pub in_step : (a : Audio) (t : ℕ) → AllSizes a.bytes → InStep a t
 in_step a t sizes =

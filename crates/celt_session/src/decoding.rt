@@ -19,11 +19,7 @@ use std::marker::Model;
 use std::thread::Threads;
 
 /// Samples, before the first page.
-fn samples_for(
-    alloc: Global,
-    has_header: bool,
-    invert: bool,
-) -> Result<PageWork, OutOfMemory>
+fn samples_for(alloc: Global, has_header: bool, invert: bool) -> Result<PageWork, OutOfMemory>
     ensures shows { IfOk result (λ work. ShowsPages work (sampling has_header invert)) }
     ensures new { IfOk result (λ work. pages_in work ≡ 0) }
 {

@@ -252,13 +252,7 @@ impl FrameBatch {
         ensures read { IsRead self.new }
     {
         let count = self.count;
-        read_slots(
-            rt,
-            &self.bytes,
-            self.slots.as_mut_slice(),
-            count,
-            gate,
-        );
+        read_slots(rt, &self.bytes, self.slots.as_mut_slice(), count, gate);
     }
 
     /// Reads the frames of the page that was given last, 16 at most, from this place on, and answers the place behind

@@ -86,15 +86,7 @@ fn met<R: Threads>(
         missed: AtomicBool::new(false),
     };
     let settings = DecodeSettings { form, invert: true };
-    let status = decode_stream(
-        rt,
-        alloc,
-        settings,
-        1 << 40,
-        &mut input,
-        &mut output,
-        &gate,
-    );
+    let status = decode_stream(rt, alloc, settings, 1 << 40, &mut input, &mut output, &gate);
     let batches = gate.first.load(Ordering::SeqCst);
     let missed = gate.missed.load(Ordering::SeqCst);
     Ok((status, output.bytes().len(), batches, missed))

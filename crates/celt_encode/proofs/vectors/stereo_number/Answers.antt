@@ -10,4 +10,4 @@ returns c =
     to_z-of_z w64 c.steps_between.result (record { sfits = c.steps_between.type_inv })
     ∙ c.steps_between.ensures
     ∙ stereo_is (outset_of c.args.frame.now) c.args.band c.args.qn c.root_of-m.result c.root_of-s.result c.energy_beside.result c.energy_beside-2.result
-        c.energy_beside.ensures.value c.energy_beside-2.ensures.value c.root_of-m.ensures.value c.root_of-s.ensures.value
+    c.energy_beside.ensures.value c.energy_beside-2.ensures.value c.root_of-m.ensures.value c.root_of-s.ensures.value

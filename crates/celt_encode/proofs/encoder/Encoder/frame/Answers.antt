@@ -25,7 +25,7 @@ returns-clause-bytes c =
     let i = c.self.inside in
     c.write-self-inside.ensures.bytes
     ∙ ap frame_of (c.hear.ensures.outset
-        ∙ ap (λ e. outset_for e c.args.a.now n) c.self.view_is)
+    ∙ ap (λ e. outset_for e c.args.a.now n) c.self.view_is)
 
 pub returns-clause-kept : goal.returns-clause-kept
 unfolding kept
@@ -34,7 +34,7 @@ returns-clause-kept c =
     let i = c.self.inside in
     c.write-self-inside.ensures.kept
     ∙ ap kept_of (c.hear.ensures.outset
-        ∙ ap (λ e. outset_for e c.args.a.now n) c.self.view_is)
+    ∙ ap (λ e. outset_for e c.args.a.now n) c.self.view_is)
 
 pub returns-clause-symbols : goal.returns-clause-symbols
 returns-clause-symbols c =
@@ -43,7 +43,7 @@ returns-clause-symbols c =
 pub returns-clause-read : goal.returns-clause-read
 returns-clause-read c =
     subst (λ k. IsReading k c.write-self-inside.new.room (answers_in c.write-self-inside.new.out)) (c.hear.ensures.kind ∙ ap (λ e. e.kind) c.self.view_is)
-        c.write-self-inside.ensures.read
+    c.write-self-inside.ensures.read
 
 pub returns-clause-state : goal.returns-clause-state
 unfolding kept
@@ -54,7 +54,7 @@ returns-clause-state c =
     c.hear.ensures.outset in
     let are = subst (λ k. AreOf k n c.write-self-inside.new.out) c.hear.ensures.kind c.write-self-inside.ensures.are in
     after_is (the_view i) c.args.a.now n _ (answers_in c.write-self-inside.new.out) _ (c.write-self-inside.ensures.kept ∙ ap kept_of outset)
-        (c.share-self-inside.ensures.of n are) (c.write-self-inside.ensures.fell ∙ ap fell_of outset)
+    (c.share-self-inside.ensures.of n are) (c.write-self-inside.ensures.fell ∙ ap fell_of outset)
     ∙ ap (λ e. after_frame e c.args.a.now n) c.self.view_is
 
 pub returns-clause-shares : goal.returns-clause-shares
