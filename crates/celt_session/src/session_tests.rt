@@ -126,12 +126,12 @@ fn ends_twice(
     };
     let (first, rest) = bytes.split_at(bytes.len().min(100));
     let (rest, _) = rest.split_at(rest.len().min(100));
-    let answer = feed_pieces(rt, &mut session, first, 100, &mut output);
+    let answer = session.feed(rt, first, &mut output, &NoGate);
     let early = fault_of(&session, answer);
     if session.ended() {
         return Ok((early, None, output.bytes().len()));
     }
-    let answer = feed_pieces(rt, &mut session, rest, 100, &mut output);
+    let answer = session.feed(rt, rest, &mut output, &NoGate);
     Ok((early, fault_of(&session, answer), output.bytes().len()))
 }
 
