@@ -1,5 +1,5 @@
 -- Parts of a split: what they may have, and how they join.
-use Rattle.std.proofs.Common.{◌≡◌, ◌⊎◌, inl, inr, ℕ, ◌+◌, ◌-◌, ◌*◌, ◌/◌, ◌%◌, ◌^◌, ◌<◌, ◌≤◌, sym, subst, arith, refl, ap, ◌∙◌, List, ◌++◌, length, take, drop, Bool, true, false, length-take, length-drop}
+use Rattle.std.proofs.Common.{◌≡◌, ◌⊎◌, inl, inr, ℕ, ◌+◌, ◌-◌, ◌*◌, ◌/◌, ◌%◌, ◌^◌, ◌<◌, ◌≤◌, sym, subst, arith, refl, ap, ◌∙◌, List, ◌++◌, length, take, drop, Bool, true, false, length-take, length-drop, []}
 use Rattle.std.specs.Prelude.{ℤ, pos, ◌≤ℤ◌, unsigned_abs, if◌then◌else◌}
 use Rattle.std.specs.Int.RustNames.{bit_or}
 use Rattle.std.proofs.lemmas.Nat.{or_lt}
@@ -191,3 +191,14 @@ leaf_made spread n k index s m t source xs w r e p = subst (λ z. IsMade w.block
 
 pub read_made : (spread n s m t : ℕ) (source xs : List ℤ) (w : Wish) (r q : Read) → r ≡ q → IsMade w.blocks (part_shape spread n q.part source w s) xs m t → IsMade w.blocks (part_shape spread n r.part source w s) xs m t
 read_made spread n s m t source xs w r q e p = subst (λ z. IsMade w.blocks (part_shape spread n z.part source w s) xs m t) (sym e) p
+
+-- what is said of mask and state of a part that was made, of numbers that are the same
+pub seed_made : (blocks : ℕ) (shape : Shape) (xs : List ℤ) (m s t : ℕ) → t ≡ s → IsMade blocks shape xs m s → IsMade blocks shape xs m t
+seed_made blocks shape xs m s t e p = subst (λ z. IsMade blocks shape xs m z) (sym e) p
+
+pub filled_made : (blocks : ℕ) (shape : Shape) (xs : List ℤ) (m n s t : ℕ) → n ≡ m → t ≡ s → IsMade blocks shape xs m s → IsMade blocks shape xs n t
+filled_made blocks shape xs m n s t em es p = subst (λ z. IsMade blocks shape xs z t) (sym em) (seed_made blocks shape xs m s t es p)
+
+-- what can be made of a source can be made of none
+pub sourceless : (n : ℕ) (xs : List ℤ) (w : Wish) → CanMake n xs w → CanMake n [] w
+sourceless n xs w p = record { count = p.count; source = inl refl; items = λ i d q. absurd (omega arith); blocks = p.blocks; runs = p.runs; gain_low = p.gain_low; gain_high = p.gain_high }

@@ -5,10 +5,35 @@ ghost use Rattle.band_shapes.specs.Parts.{part_shape, IsMade, CanMake};
 ghost use Rattle.band_shapes.specs.Tree.{read_part, IsPart};
 
 use crate::change::{Change, fill_in, haar_down, haar_up, mask_back};
-use crate::node::{Made, Place, Tools, Wish};
+use crate::node::{Branch, Made, Place, Tools, Wish};
 use crate::parts::{part, silent_in};
-use band_plan::Node;
 use tf_change::{order, unorder};
+
+/// Rooms in which the parts of a channel are made. What they hold is of no use afterwards.
+#[derive(Drop)]
+pub struct Rooms {
+    turned: [i64; 176],
+    pulses: [i32; 176],
+}
+
+/// Rooms in which a channel is made. What they hold is of no use afterwards.
+#[derive(Drop)]
+pub struct Scratch {
+    rooms: Rooms,
+    changed: [i64; 176],
+}
+
+impl Scratch {
+    pub fn new() -> Scratch {
+        Scratch {
+            rooms: Rooms {
+                turned: [0; 176],
+                pulses: [0; 176],
+            },
+            changed: [0; 176],
+        }
+    }
+}
 
 // The steps of a change on a source.
 fn steps_in(x: &mut [i64], blocks: u32, change: Change)
@@ -62,93 +87,74 @@ pub fn source_in(source: &[i64], t: &mut [i64], out: &mut [i64], blocks: u32, ch
 // The parts, in the order of the band's vector.
 fn parts_back(
     x: &mut [i64],
-    t: &mut [i64],
-    y: &mut [i32],
+    rooms: &mut Rooms,
     tools: &Tools<'_>,
-    nodes: &[Node],
     source: &[i64],
     wish: Wish,
-    blocks: u32,
-    change: Change,
-    level: u32,
     place: Place,
 ) -> Made
-    requires room { length y.old ≡ length x.old }
-    requires turn { length t.old ≡ length x.old }
-    requires change { IsChange (length x.old) blocks change }
-    requires same { wish.blocks ≡ change.blocks }
-    requires fits { CanMake (length x.old) source.now wish }
+    requires change { IsChange (length x.old) wish.blocks tools.now.layout.change }
+    requires fits { CanMake (length x.old) source.now (changed_wish wish.blocks tools.now.layout.change wish) }
     requires spread { tools.now.layout.spread ≤ 3 }
-    requires level { level ≤ 4 }
-    requires fill { wish.fill < 2 ^ (24 - level) }
-    requires at { place.at ≤ length nodes.now }
-    requires tree { IsPart (length x.old) (read_part level (drop place.at nodes.now)).part }
-    ensures made { IsMade wish.blocks (shape_back blocks change (part_shape tools.now.layout.spread (length x.old) (read_part level (drop place.at nodes.now)).part source.now wish place.seed)) x.new result.mask result.seed }
-    ensures rest { drop result.at nodes.now ≡ (read_part level (drop place.at nodes.now)).rest }
-    ensures at { result.at ≤ length nodes.now }
+    requires level { tools.now.layout.level ≤ 4 }
+    requires fill { wish.fill < 2 ^ wish.blocks }
+    requires at { place.at ≤ length tools.now.nodes.now }
+    requires tree { IsPart (length x.old) (read_part tools.now.layout.level (drop place.at tools.now.nodes.now)).part }
+    ensures made { IsMade tools.now.layout.change.blocks (shape_back wish.blocks tools.now.layout.change (part_shape tools.now.layout.spread (length x.old) (read_part tools.now.layout.level (drop place.at tools.now.nodes.now)).part source.now (changed_wish wish.blocks tools.now.layout.change wish) place.seed)) x.new result.mask result.seed }
+    ensures rest { drop result.at tools.now.nodes.now ≡ (read_part tools.now.layout.level (drop place.at tools.now.nodes.now)).rest }
+    ensures at { result.at ≤ length tools.now.nodes.now }
 {
+    let n = x.len();
+    let change = tools.layout.change;
+    let branch = Branch {
+        wish: Wish {
+            fill: fill_in(n, wish.blocks, change, wish.fill),
+            gain: wish.gain,
+            blocks: change.blocks,
+        },
+        level: tools.layout.level,
+    };
+    let (pulses, _) = rooms.pulses.split_at_mut(n);
     if change.blocks > 1 {
-        let made = part(t, y, tools, nodes, source, wish, level, place);
+        let (turned, _) = rooms.turned.split_at_mut(n);
+        let made = part(turned, pulses, tools, source, branch, place);
         unorder(
-            t,
+            turned,
             x,
-            x.len() / change.stride as usize,
+            n / change.stride as usize,
             change.stride as usize,
-            blocks == 1,
+            wish.blocks == 1,
         );
         return made;
     }
-    part(x, y, tools, nodes, source, wish, level, place)
+    part(x, pulses, tools, source, branch, place)
 }
 
 // A channel from its changed source.
 fn channel_from(
     x: &mut [i64],
-    t: &mut [i64],
-    y: &mut [i32],
+    rooms: &mut Rooms,
     tools: &Tools<'_>,
-    nodes: &[Node],
     source: &[i64],
     wish: Wish,
-    change: Change,
-    level: u32,
     place: Place,
 ) -> Made
-    requires room { length y.old ≡ length x.old }
-    requires turn { length t.old ≡ length x.old }
-    requires change { IsChange (length x.old) wish.blocks change }
-    requires fits { CanMake (length x.old) source.now (changed_wish wish.blocks change wish) }
+    requires change { IsChange (length x.old) wish.blocks tools.now.layout.change }
+    requires fits { CanMake (length x.old) source.now (changed_wish wish.blocks tools.now.layout.change wish) }
     requires spread { tools.now.layout.spread ≤ 3 }
-    requires level { level ≤ 4 }
+    requires level { tools.now.layout.level ≤ 4 }
     requires fill { wish.fill < 2 ^ wish.blocks }
-    requires at { place.at ≤ length nodes.now }
-    requires tree { IsPart (length x.old) (read_part level (drop place.at nodes.now)).part }
-    ensures made { IsChannel wish.blocks (after_change wish.blocks change (part_shape tools.now.layout.spread (length x.old) (read_part level (drop place.at nodes.now)).part source.now (changed_wish wish.blocks change wish) place.seed)) x.new result.mask result.seed }
-    ensures rest { drop result.at nodes.now ≡ (read_part level (drop place.at nodes.now)).rest }
-    ensures at { result.at ≤ length nodes.now }
+    requires at { place.at ≤ length tools.now.nodes.now }
+    requires tree { IsPart (length x.old) (read_part tools.now.layout.level (drop place.at tools.now.nodes.now)).part }
+    ensures made { IsChannel wish.blocks (after_change wish.blocks tools.now.layout.change (part_shape tools.now.layout.spread (length x.old) (read_part tools.now.layout.level (drop place.at tools.now.nodes.now)).part source.now (changed_wish wish.blocks tools.now.layout.change wish) place.seed)) x.new result.mask result.seed }
+    ensures rest { drop result.at tools.now.nodes.now ≡ (read_part tools.now.layout.level (drop place.at tools.now.nodes.now)).rest }
+    ensures at { result.at ≤ length tools.now.nodes.now }
 {
-    let n = x.len();
-    let inner = Wish {
-        fill: fill_in(n, wish.blocks, change, wish.fill),
-        gain: wish.gain,
-        blocks: change.blocks,
-    };
-    let made = parts_back(
-        x,
-        t,
-        y,
-        tools,
-        nodes,
-        source,
-        inner,
-        wish.blocks,
-        change,
-        level,
-        place,
-    );
+    let change = tools.layout.change;
+    let made = parts_back(x, rooms, tools, source, wish, place);
     steps_back(x, wish.blocks, change);
     Made {
-        mask: mask_back(n, wish.blocks, change, made.mask),
+        mask: mask_back(x.len(), wish.blocks, change, made.mask),
         seed: made.seed,
         at: made.at,
     }
@@ -157,39 +163,34 @@ fn channel_from(
 /// A channel of two or more coefficients. The source is empty where there is none.
 pub fn channel(
     x: &mut [i64],
-    t: &mut [i64],
-    s: &mut [i64],
-    y: &mut [i32],
+    scratch: &mut Scratch,
     tools: &Tools<'_>,
-    nodes: &[Node],
     source: &[i64],
     wish: Wish,
-    change: Change,
-    level: u32,
     place: Place,
 ) -> Made
-    requires room { length y.old ≡ length x.old }
-    requires turn { length t.old ≡ length x.old }
-    requires copy { length s.old ≡ length x.old }
-    requires change { IsChange (length x.old) wish.blocks change }
+    requires change { IsChange (length x.old) wish.blocks tools.now.layout.change }
     requires fits { CanMake (length x.old) source.now wish }
     requires items { All (λ v. unsigned_abs v ≤ 2 ^ 19) source.now }
     requires spread { tools.now.layout.spread ≤ 3 }
-    requires level { level ≤ 4 }
+    requires level { tools.now.layout.level ≤ 4 }
     requires fill { wish.fill < 2 ^ wish.blocks }
-    requires at { place.at ≤ length nodes.now }
-    requires tree { IsPart (length x.old) (read_part level (drop place.at nodes.now)).part }
-    ensures made { IsChannel wish.blocks (channel_by tools.now.layout.spread (length x.old) (read_part level (drop place.at nodes.now)).part source.now wish change place.seed) x.new result.mask result.seed }
-    ensures rest { drop result.at nodes.now ≡ (read_part level (drop place.at nodes.now)).rest }
-    ensures at { result.at ≤ length nodes.now }
+    requires at { place.at ≤ length tools.now.nodes.now }
+    requires tree { IsPart (length x.old) (read_part tools.now.layout.level (drop place.at tools.now.nodes.now)).part }
+    ensures made { IsChannel wish.blocks (channel_by tools.now.layout.spread (length x.old) (read_part tools.now.layout.level (drop place.at tools.now.nodes.now)).part source.now wish tools.now.layout.change place.seed) x.new result.mask result.seed }
+    ensures rest { drop result.at tools.now.nodes.now ≡ (read_part tools.now.layout.level (drop place.at tools.now.nodes.now)).rest }
+    ensures at { result.at ≤ length tools.now.nodes.now }
 {
     if source.is_empty() {
-        return channel_from(x, t, y, tools, nodes, source, wish, change, level, place);
+        return channel_from(x, &mut scratch.rooms, tools, source, wish, place);
     }
-    let seen = silent_in(nodes, place.at, level);
+    let seen = silent_in(tools.nodes, place.at, tools.layout.level);
     if seen.silent {
-        source_in(source, t, s, wish.blocks, change);
-        return channel_from(x, t, y, tools, nodes, s, wish, change, level, place);
+        let n = x.len();
+        let (turned, _) = scratch.rooms.turned.split_at_mut(n);
+        let (changed, _) = scratch.changed.split_at_mut(n);
+        source_in(source, turned, changed, wish.blocks, tools.layout.change);
+        return channel_from(x, &mut scratch.rooms, tools, changed, wish, place);
     }
-    channel_from(x, t, y, tools, nodes, &[], wish, change, level, place)
+    channel_from(x, &mut scratch.rooms, tools, &[], wish, place)
 }

@@ -5,7 +5,7 @@ ghost use Rattle.spread_fold.specs.Noise.{seed_after, noise_items, folded};
 ghost use Rattle.band_shapes.specs.Parts.{pulses_at, pulse_shape, silent_shape, IsMade, CanMake};
 ghost use Rattle.band_shapes.specs.Tree.{IsLeaf};
 
-use crate::node::{Tools, Wish};
+use crate::node::{Pulses, Tools, Wish};
 use fixed_math::unit;
 use spread_fold::{fold, mask_of, noise_fill, rotate};
 
@@ -33,19 +33,19 @@ pub fn pulse_leaf(
     x: &mut [i64],
     y: &mut [i32],
     tools: &Tools<'_>,
-    k: u32,
-    index: u32,
+    pulses: Pulses,
     wish: Wish,
     seed: u32,
 ) -> Filled
     requires room { length y.old ≡ length x.old }
     requires fits { CanMake (length x.old) [] wish }
-    requires leaf { IsLeaf (length x.old) k index }
-    requires some { 1 ≤ k }
+    requires leaf { IsLeaf (length x.old) pulses.count pulses.index }
+    requires some { 1 ≤ pulses.count }
     requires spread { tools.now.layout.spread ≤ 3 }
-    ensures { IsMade wish.blocks (pulse_shape tools.now.layout.spread (length x.old) k index wish seed) x.new result.mask result.seed }
+    ensures { IsMade wish.blocks (pulse_shape tools.now.layout.spread (length x.old) pulses.count pulses.index wish seed) x.new result.mask result.seed }
 {
-    tools.pulses.unrank(index, k, y);
+    let k = pulses.count;
+    tools.pulses.unrank(pulses.index, k, y);
     widen(y, x);
     unit(x, wish.gain);
     rotate(x, tools.trig, wish.blocks, k, tools.layout.spread, false);

@@ -18,6 +18,24 @@ pub struct Wish {
     pub blocks: u32,
 }
 
+/// A part that is to be made.
+#[derive(Clone, Copy)]
+pub struct Branch {
+    /// What it is to be like.
+    pub wish: Wish,
+    /// How many splits stand within one another in it at most.
+    pub level: u32,
+}
+
+/// A vector of pulses.
+#[derive(Clone, Copy)]
+pub struct Pulses {
+    /// Their number.
+    pub count: u32,
+    /// The place of the vector.
+    pub index: u32,
+}
+
 /// Where the walk stands.
 #[derive(Clone, Copy)]
 pub struct Place {

@@ -7,10 +7,11 @@ ghost use Rattle.band_shapes.specs.Forms.{cut_in, turned_in, IsSide, IsForm};
 ghost use Rattle.band_shapes.specs.Parts.{mid_of, side_of};
 ghost use Rattle.band_shapes.specs.Tree.{front, IsAngle};
 
+use crate::channels::Scratch;
 use crate::duos::duo;
 use crate::node::{Cut, Fills, Layout, Made, MadePair, Place, Tools, Wish, next_place, node_at};
 use crate::parts::{kept_fill, mid_of, side_of};
-use crate::sides::{Scratch, side_in};
+use crate::sides::side_in;
 use band_plan::Node;
 use spread_fold::merge;
 
@@ -216,53 +217,28 @@ fn both(
 {
     let middle = mid_wish(tools.layout, fill, cut);
     let other = side_wish(tools.layout, fill, cut);
+    let left = &mut bench.left;
+    let right = &mut bench.right;
+    let scratch = &mut bench.scratch;
     if cut.second_first {
-        let one = side_in(
-            &mut bench.right,
-            &mut bench.scratch,
-            tools,
-            &[],
-            other,
-            place,
-        );
+        let one = side_in(right, scratch, tools, &[], other, place);
         let place = Place {
             seed: one.seed,
             at: one.at,
         };
-        let two = side_in(
-            &mut bench.left,
-            &mut bench.scratch,
-            tools,
-            source,
-            middle,
-            place,
-        );
+        let two = side_in(left, scratch, tools, source, middle, place);
         return Made {
             mask: two.mask | one.mask,
             seed: two.seed,
             at: two.at,
         };
     }
-    let one = side_in(
-        &mut bench.left,
-        &mut bench.scratch,
-        tools,
-        source,
-        middle,
-        place,
-    );
+    let one = side_in(left, scratch, tools, source, middle, place);
     let place = Place {
         seed: one.seed,
         at: one.at,
     };
-    let two = side_in(
-        &mut bench.right,
-        &mut bench.scratch,
-        tools,
-        &[],
-        other,
-        place,
-    );
+    let two = side_in(right, scratch, tools, &[], other, place);
     Made {
         mask: one.mask | two.mask,
         seed: two.seed,

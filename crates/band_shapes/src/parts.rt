@@ -6,7 +6,7 @@ ghost use Rattle.band_shapes.specs.Parts.{mid_of, side_of, halved, doubled_fill,
 ghost use Rattle.band_shapes.specs.Tree.{read_part, IsAngle, IsLeaf, IsPart, IsBlocks};
 
 use crate::leaves::{Filled, pulse_leaf, silent_leaf};
-use crate::node::{Cut, Made, Piece, Place, Tools, Wish, next_place, piece_at};
+use crate::node::{Branch, Cut, Made, Piece, Place, Pulses, Tools, Wish, next_place, piece_at};
 use band_plan::Node;
 use fixed_math::{bitexact_cos, mulr};
 
@@ -141,27 +141,34 @@ fn joined_mask(blocks: u32, first: u32, second: u32) -> u32
     first | (second << (blocks / 2))
 }
 
-// A part that is not split.
-fn leaf(
-    x: &mut [i64],
-    y: &mut [i32],
-    tools: &Tools<'_>,
-    source: &[i64],
-    k: u32,
-    index: u32,
-    wish: Wish,
-    seed: u32,
-) -> Filled
-    requires room { length y.old ≡ length x.old }
-    requires fits { CanMake (length x.old) source.now wish }
-    requires leaf { IsLeaf (length x.old) k index }
-    requires spread { tools.now.layout.spread ≤ 3 }
-    ensures { IsMade wish.blocks (leaf_shape tools.now.layout.spread (length x.old) k index source.now wish seed) x.new result.mask result.seed }
+// What both parts of a split leave, in the order of their places; the last one made says where the walk stands.
+fn joined(blocks: u32, first: Made, second: Made, last: Made) -> Made
+    requires blocks { IsBlocks blocks }
+    requires first { first.mask < 2 ^ halved blocks }
+    requires second { second.mask < 2 ^ halved blocks }
+    ensures value { result.mask ≡ bit_or first.mask (second.mask * 2 ^ (blocks / 2)) }
+    ensures size { result.mask < 2 ^ blocks }
+    ensures seed { result.seed ≡ last.seed }
+    ensures at { result.at ≡ last.at }
 {
-    if k == 0 {
-        return silent_leaf(x, source, wish, seed);
+    Made {
+        mask: joined_mask(blocks, first.mask, second.mask),
+        seed: last.seed,
+        at: last.at,
     }
-    pulse_leaf(x, y, tools, k, index, wish, seed)
+}
+
+// What a leaf leaves.
+fn made_at(filled: Filled, at: usize) -> Made
+    ensures mask { result.mask ≡ filled.mask }
+    ensures seed { result.seed ≡ filled.seed }
+    ensures at { result.at ≡ at }
+{
+    Made {
+        mask: filled.mask,
+        seed: filled.seed,
+        at,
+    }
 }
 
 // Both halves of a source; none has none.
@@ -182,107 +189,65 @@ pub fn part(
     x: &mut [i64],
     y: &mut [i32],
     tools: &Tools<'_>,
-    nodes: &[Node],
     source: &[i64],
-    wish: Wish,
-    level: u32,
+    branch: Branch,
     place: Place,
 ) -> Made
     requires room { length y.old ≡ length x.old }
-    requires fits { CanMake (length x.old) source.now wish }
+    requires fits { CanMake (length x.old) source.now branch.wish }
     requires spread { tools.now.layout.spread ≤ 3 }
-    requires level { level ≤ 4 }
-    requires fill { wish.fill < 2 ^ (24 - level) }
-    requires at { place.at ≤ length nodes.now }
-    requires tree { IsPart (length x.old) (read_part level (drop place.at nodes.now)).part }
-    ensures made { IsMade wish.blocks (part_shape tools.now.layout.spread (length x.old) (read_part level (drop place.at nodes.now)).part source.now wish place.seed) x.new result.mask result.seed }
-    ensures rest { drop result.at nodes.now ≡ (read_part level (drop place.at nodes.now)).rest }
-    ensures at { result.at ≤ length nodes.now }
+    requires level { branch.level ≤ 4 }
+    requires fill { branch.wish.fill < 2 ^ (24 - branch.level) }
+    requires at { place.at ≤ length tools.now.nodes.now }
+    requires tree { IsPart (length x.old) (read_part branch.level (drop place.at tools.now.nodes.now)).part }
+    ensures made { IsMade branch.wish.blocks (part_shape tools.now.layout.spread (length x.old) (read_part branch.level (drop place.at tools.now.nodes.now)).part source.now branch.wish place.seed) x.new result.mask result.seed }
+    ensures rest { drop result.at tools.now.nodes.now ≡ (read_part branch.level (drop place.at tools.now.nodes.now)).rest }
+    ensures at { result.at ≤ length tools.now.nodes.now }
 {
-    let at = next_place(nodes, place.at);
-    match piece_at(nodes, place.at, level) {
+    let at = next_place(tools.nodes, place.at);
+    let wish = branch.wish;
+    match piece_at(tools.nodes, place.at, branch.level) {
         Piece::Split(cut) => {
             let half = x.len() / 2;
-            let below = level - 1;
-            let first = first_wish(cut, wish);
-            let second = second_wish(cut, wish);
+            let level = branch.level - 1;
+            let first = Branch {
+                wish: first_wish(cut, wish),
+                level,
+            };
+            let second = Branch {
+                wish: second_wish(cut, wish),
+                level,
+            };
             let (low_source, high_source) = halves(source, half);
             let (low, high) = x.split_at_mut(half);
             let (low_room, high_room) = y.split_at_mut(half);
-            if cut.second_first {
-                let two = part(
-                    high,
-                    high_room,
-                    tools,
-                    nodes,
-                    high_source,
-                    second,
-                    below,
-                    Place {
-                        seed: place.seed,
-                        at,
-                    },
-                );
-                let one = part(
-                    low,
-                    low_room,
-                    tools,
-                    nodes,
-                    low_source,
-                    first,
-                    below,
-                    Place {
-                        seed: two.seed,
-                        at: two.at,
-                    },
-                );
-                let mask = joined_mask(wish.blocks, one.mask, two.mask);
-                return Made {
-                    mask,
-                    seed: one.seed,
-                    at: one.at,
-                };
-            }
-            let one = part(
-                low,
-                low_room,
-                tools,
-                nodes,
-                low_source,
-                first,
-                below,
-                Place {
-                    seed: place.seed,
-                    at,
-                },
-            );
-            let two = part(
-                high,
-                high_room,
-                tools,
-                nodes,
-                high_source,
-                second,
-                below,
-                Place {
-                    seed: one.seed,
-                    at: one.at,
-                },
-            );
-            let mask = joined_mask(wish.blocks, one.mask, two.mask);
-            Made {
-                mask,
-                seed: two.seed,
-                at: two.at,
-            }
-        }
-        Piece::Leaf(k, index) => {
-            let filled = leaf(x, y, tools, source, k, index, wish, place.seed);
-            Made {
-                mask: filled.mask,
-                seed: filled.seed,
+            let place = Place {
+                seed: place.seed,
                 at,
+            };
+            if cut.second_first {
+                let two = part(high, high_room, tools, high_source, second, place);
+                let place = Place {
+                    seed: two.seed,
+                    at: two.at,
+                };
+                let one = part(low, low_room, tools, low_source, first, place);
+                return joined(wish.blocks, one, two, one);
             }
+            let one = part(low, low_room, tools, low_source, first, place);
+            let place = Place {
+                seed: one.seed,
+                at: one.at,
+            };
+            let two = part(high, high_room, tools, high_source, second, place);
+            joined(wish.blocks, one, two, two)
+        }
+        Piece::Leaf(count, index) => {
+            if count == 0 {
+                return made_at(silent_leaf(x, source, wish, place.seed), at);
+            }
+            let pulses = Pulses { count, index };
+            made_at(pulse_leaf(x, y, tools, pulses, wish, place.seed), at)
         }
     }
 }

@@ -5,27 +5,9 @@ ghost use Rattle.band_shapes.specs.Channels.{IsChannel};
 ghost use Rattle.band_shapes.specs.Forms.{read_side, sign_in, IsSide};
 ghost use Rattle.band_shapes.specs.Tree.{front};
 
-use crate::channels::channel;
+use crate::channels::{Scratch, channel};
 use crate::node::{Made, Place, Tools, Wish, next_place, node_at};
 use band_plan::Node;
-
-/// Rooms in which a channel is made. What they hold is of no use afterwards.
-#[derive(Drop)]
-pub struct Scratch {
-    turned: [i64; 176],
-    changed: [i64; 176],
-    pulses: [i32; 176],
-}
-
-impl Scratch {
-    pub fn new() -> Scratch {
-        Scratch {
-            turned: [0; 176],
-            changed: [0; 176],
-            pulses: [0; 176],
-        }
-    }
-}
 
 /// The item of a channel of one coefficient.
 #[tactic(auto, unfolding(crate::specs::Bands::sign_of))]
@@ -85,22 +67,7 @@ pub fn side(
     if n == 1 {
         return signed(x, tools, place);
     }
-    let (turned, _) = scratch.turned.split_at_mut(n);
-    let (changed, _) = scratch.changed.split_at_mut(n);
-    let (pulses, _) = scratch.pulses.split_at_mut(n);
-    channel(
-        x,
-        turned,
-        changed,
-        pulses,
-        tools,
-        tools.nodes,
-        source,
-        wish,
-        tools.layout.change,
-        tools.layout.level,
-        place,
-    )
+    channel(x, scratch, tools, source, wish, place)
 }
 
 /// The same in the first items of a longer list.
