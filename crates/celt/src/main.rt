@@ -1,4 +1,4 @@
-//! `celt` decodes CELT-only Opus streams in Ogg into samples, and encodes the silence of WAV files: standard
+//! `celt` decodes CELT-only Opus streams in Ogg into samples, and encodes WAV files into such streams: standard
 //! input, standard output, and one line on standard error where the words or the input are refused.
 #![tactic(auto)]
 
