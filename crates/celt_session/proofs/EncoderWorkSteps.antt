@@ -1,5 +1,5 @@
 -- An encoder goes over a batch as the frames of its windows do.
-use Rattle.std.proofs.Common.{◌≡◌, ℕ, zero, suc, ◌+◌, ◌<◌, ◌≤◌, not, ℤ, List, [], ◌∷◌, ◌++◌, ◌-◌, ◌*◌, length, take, refl, sym, ap, subst, ◌∙◌, arith}
+use Rattle.std.proofs.Common.{◌≡◌, ℕ, zero, suc, ◌+◌, ◌<◌, ◌≤◌, not, ℤ, List, [], ◌∷◌, ◌++◌, ◌-◌, ◌*◌, length, take, slice_set, refl, sym, ap, subst, ◌∙◌, arith}
 use Rattle.std.specs.Prelude.{slice_index_or, Some}
 use Rattle.std.specs.List.{concat}
 use borrow.Rule.Slice.PartMut.{put_mid}
@@ -8,6 +8,8 @@ use Rattle.std.proofs.Common.{length-append}
 use Rattle.std.proofs.lemmas.List.Elements.{All-push}
 use Rattle.std.proofs.Math.Seq.{take-append_seam}
 use Rattle.celt_analysis.specs.Batches.{AreWindows, IsWindow}
+use Rattle.celt_analysis.specs.Signals.{window_size}
+use Rattle.celt_session.proofs.SlotSteps.{set_all, set_more}
 use Rattle.celt_session.proofs.Rows.{made_none, made_more}
 use Rattle.celt_base.specs.declared.kind.Kind.{Kind}
 use Rattle.celt_analysis.specs.Analyses.{Analysis, analysed, analysis_of, found}
@@ -17,7 +19,7 @@ use Rattle.celt_synth.specs.Readings.{share_by}
 use Rattle.celt_synth.specs.Rows.{greater}
 use Rattle.celt_session.specs.declared.hearing.Trail.{Trail}
 use Rattle.celt_session.specs.EncodedFrames.{Footing, analysis_by, encoder_by, footing_after, frame_by, encoded_frames, pitch_of}
-use Rattle.celt_session.specs.EncoderWorks.{encoder_after, IsOn}
+use Rattle.celt_session.specs.EncoderWorks.{encoder_after, AreRooms, IsOn}
 use Rattle.celt_session.specs.FrameFunctions.{Row, state_before, frame_at, frames_from}
 use Rattle.celt_session.specs.Hearings.{window_at, trail_by, pitches_of, heard_at}
 
@@ -215,3 +217,19 @@ row_at s samples bytes kind = record { kind = kind; from = s; window = window_at
 -- what is left of the slots of a room is what was put there
 pub all_left : {A : Type 0} (new rest : List A) (len : ℕ) → length new ≡ len → take len (new ++ rest) ≡ new
 all_left new rest len same = ap (λ n. take n (new ++ rest)) (sym same) ∙ take-append_seam new rest
+
+-- ---- windows that are shortened
+
+pub record Shortened (kind : Kind) (slots : List WindowSlot) (k : ℕ) : Type 0 where
+  pub rooms : AreRooms kind slots
+  pub done : (j : ℕ) (d : WindowSlot) → j < k → IsWindow kind (slice_index_or slots j d)
+
+pub shortened_none : (kind : Kind) (slots : List WindowSlot) → AreRooms kind slots → Shortened kind slots 0
+shortened_none kind slots rooms = record { rooms = rooms; done = λ j d below. absurd (omega arith) }
+
+pub shortened_more : (kind : Kind) (slots : List WindowSlot) (k : ℕ) (slot : WindowSlot) → k < length slots → IsWindow kind slot → Shortened kind slots k
+    → Shortened kind (slice_set slots k slot) (k + 1)
+shortened_more kind slots k slot less is s = record {
+  rooms = set_all (λ j x. window_size kind ≤ length x.window.items) slots k slot less s.rooms (omega (arith, is));
+  done = set_more (λ j x. IsWindow kind x) slots k slot less s.done is;
+}

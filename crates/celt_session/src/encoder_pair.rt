@@ -1,4 +1,5 @@
-//! Two encoders, one for each number of channels: which of them is needed is known once a file's samples begin.
+//! Two encoders, one for each number of channels, over one room for windows: which of them is needed is known once a file's
+//! samples begin.
 ghost use Rattle.std.specs.Prelude.{◌≡◌, ◌*◌, length, IfOk};
 ghost use Rattle.celt_session.specs.EncodedFrames.{Footing, first_footing};
 ghost use Rattle.celt_session.specs.Encodings.{AreSettings};
@@ -12,14 +13,16 @@ use crate::planning::plan_of;
 use crate::settings::Settings;
 use celt_base::outside::Gate;
 use celt_base::status::OutOfMemory;
+use celt_encode::Encoder;
 use std::alloc::Global;
 use std::thread::Threads;
 
-/// An encoder for one channel and one for two.
+/// An encoder for two channels with its windows, and one for one channel that takes its place before the first frame where
+/// frames have one.
 #[derive(Drop)]
 pub(crate) struct EncoderPair {
-    mono: EncoderWork,
-    stereo: EncoderWork,
+    work: EncoderWork,
+    mono: Encoder,
     /// The channels of the frames that were made.
     begun: Option<u8>,
 }
@@ -31,15 +34,15 @@ impl EncoderPair {
         ensures makes { IfOk result (λ pair. MakesBoth pair_work settings pair) }
         ensures shows { IfOk result (λ pair. ShowsEither pair first_footing) }
     {
-        let Ok(mono) = EncoderWork::new(alloc, plan_of(settings, 1).kind) else {
+        let Ok(work) = EncoderWork::new(alloc, plan_of(settings, 2).kind) else {
             return Err(OutOfMemory);
         };
-        let Ok(stereo) = EncoderWork::new(alloc, plan_of(settings, 2).kind) else {
+        let Ok(mono) = Encoder::new(alloc, plan_of(settings, 1).kind) else {
             return Err(OutOfMemory);
         };
         Ok(EncoderPair {
+            work,
             mono,
-            stereo,
             begun: None,
         })
     }
@@ -60,11 +63,10 @@ impl EncoderPair {
         ensures works { (s : Footing) → ShowsEither self.old s → Framed pair_work s batch samples.now self.new out.new }
         ensures kinds { MakesEither self.new batch.kind }
     {
-        self.begun = Some(batch.kind.channels);
-        if batch.kind.channels == 1 {
-            self.mono.frames(rt, batch, samples, out, gate);
-        } else {
-            self.stereo.frames(rt, batch, samples, out, gate);
+        if self.begun.is_none() && batch.kind.channels == 1 {
+            self.work.turn(&mut self.mono, batch.kind);
         }
+        self.begun = Some(batch.kind.channels);
+        self.work.frames(rt, batch, samples, out, gate);
     }
 }

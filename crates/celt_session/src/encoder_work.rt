@@ -4,8 +4,9 @@ ghost use Rattle.std.specs.List.{concat};
 ghost use Rattle.celt_analysis.specs.declared.batch.WindowSlot.{WindowSlot};
 ghost use Rattle.celt_analysis.specs.Analyses.{Analysis};
 ghost use Rattle.celt_analysis.specs.Batches.{AreWindows, IsWindow};
+ghost use Rattle.celt_analysis.specs.Signals.{window_size};
 ghost use Rattle.celt_encode.specs.Encoders.{encoded};
-ghost use Rattle.celt_session.specs.EncoderWorks.{encoder_after, encoder_work, Makes, Shows};
+ghost use Rattle.celt_session.specs.EncoderWorks.{encoder_after, encoder_work, AreRooms, CanTurn, IsOn, Makes, Shows};
 ghost use Rattle.celt_base.specs.declared.kind.Kind.{Kind};
 ghost use Rattle.celt_session.specs.EncodedFrames.{Footing, first_footing};
 ghost use Rattle.celt_session.specs.FrameWorks.{Framed, batch_len};
@@ -22,6 +23,7 @@ use celt_encode::Encoder;
 use fixed_math::{Exp, Trig};
 use frame_symbols::Symbols;
 use std::alloc::Global;
+use std::mem::swap;
 use std::thread::Threads;
 
 /// An encoder, with the room for 16 windows and for what is found in them.
@@ -33,6 +35,25 @@ pub(crate) struct EncoderWork {
     symbols: Symbols,
     tables: Tables,
     trail: Trail,
+}
+
+// Shortens a window to that of a kind.
+fn shorten_window(slot: &mut WindowSlot, kind: Kind)
+    requires { window_size kind ≤ length slot.old.window.items }
+    ensures { IsWindow kind slot.new }
+{
+    slot.window.truncate(window_len(kind));
+}
+
+// Shortens the windows of slots to those of a kind.
+fn shorten_windows(slots: &mut [WindowSlot], kind: Kind)
+    requires { AreRooms kind slots.old }
+    ensures len { length slots.new ≡ length slots.old }
+    ensures windows { AreWindows kind slots.new }
+{
+    for k in 0..slots.len() {
+        shorten_window(&mut slots[k], kind);
+    }
 }
 
 // Encodes the frames of slots in order, each of so many bytes.
@@ -130,6 +151,17 @@ impl EncoderWork {
 }
 
 impl EncoderWork {
+    /// Takes an encoder of another kind in place of its own, and shortens its windows to those of this kind.
+    pub(crate) fn turn(&mut self, encoder: &mut Encoder, kind: Kind)
+        requires { CanTurn self.old encoder.old kind }
+        ensures makes { Makes self.new kind }
+        ensures shows { (s : Footing) → IsOn kind encoder.old s → self.old.trail.earlier ≡ s.earlier → self.old.trail.last ≡ s.last → Shows self.new s }
+    {
+        swap(&mut self.encoder, encoder);
+        self.kind = kind;
+        shorten_windows(self.slots.as_mut_slice(), kind);
+    }
+
     /// Makes the frames of a batch, one behind the other, in all of the room. The windows stand in the samples,
     /// channels interleaved: each has the 1145 samples per channel before its frame and the frame's own.
     pub(crate) fn frames<R: Threads, G: Gate>(
